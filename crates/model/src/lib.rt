@@ -1,0 +1,1 @@
+// Vocabulary that the specifications of all crates share. There is no code here: see specs/ and proofs/.

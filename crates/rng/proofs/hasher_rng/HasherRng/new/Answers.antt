@@ -1,0 +1,5 @@
+use Rattle.rng.proofs.Nth.{hasher-nth}
+use Rattle.rng.proofs.hasher_rng.HasherRng.new.Needs as need
+
+pub returns : need.returns
+returns c = hasher-nth
