@@ -1,0 +1,26 @@
+-- What a feed means.
+use Prim.Native.Nat.{ℕ}
+use Rattle.std.specs.declared.option.Option.{Option}
+use Rattle.std.specs.declared.option.Option.the-variants.{Some, None}
+use Rattle.model.specs.Outcome.{Outcome}
+use Rattle.discover.specs.declared.discovered.Discovered.{Discovered}
+use Rattle.discover.specs.declared.discovered.Discovered.the-variants.{Pending, End, Fault, Insert, Remove}
+
+-- a feed D of keys K, workers S and errors F: what it answers at an instant, and the value that it leaves
+pub record Feeds (D K S F : Type 0) : Type 0 where
+  pub discovered : D → ℕ → Outcome (Discovered K S F) D
+
+-- a fault of the feed has the number 12 and carries its error; the other answers have no number
+abbrev pub discovered-number : {K S F : Type 0} → Discovered K S F → Option ℕ
+discovered-number Pending = None
+discovered-number End = None
+discovered-number (Fault e) = Some 12
+discovered-number (Insert k s) = None
+discovered-number (Remove k) = None
+
+abbrev pub discovered-error : {K S F : Type 0} → Discovered K S F → Option F
+discovered-error Pending = None
+discovered-error End = None
+discovered-error (Fault e) = Some e
+discovered-error (Insert k s) = None
+discovered-error (Remove k) = None
