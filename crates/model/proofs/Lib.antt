@@ -1,1 +1,4 @@
+pub mod Cases
+pub mod Totals
+pub mod Places
 pub mod Sums

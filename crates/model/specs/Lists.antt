@@ -45,3 +45,14 @@ module _ {A : Type 0} where
   swap-remove [] i = []
   swap-remove (x ∷ xs) zero = refilled xs
   swap-remove (x ∷ xs) (suc i) = x ∷ swap-remove xs i
+
+  -- the last of a list
+  abbrev pub last-of : List A → Option A
+  last-of [] = None
+  last-of (x ∷ []) = Some x
+  last-of (x ∷ y ∷ ys) = last-of (y ∷ ys)
+
+  -- P holds of each item
+  abbrev pub Each : (A → Type 0) → List A → Type 0
+  Each P [] = Unit {0}
+  Each P (x ∷ xs) = P x × Each P xs
