@@ -1,0 +1,11 @@
+pub mod Cases
+pub mod Fair
+pub mod Search
+pub mod Feed
+pub mod Naming
+pub mod Holds
+pub mod Polls
+pub mod Calls
+pub mod Completions
+pub mod Taken
+pub mod Promised

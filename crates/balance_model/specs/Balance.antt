@@ -165,10 +165,10 @@ module _ {K S Q A E W D F R : Type 0} (m : Meanings K S Q A E W D F R) (now : �
       (record { feed = left .after; selected = selected; cache = c; pushes = []; fault = None })
       (λ f. record { feed = left .after; selected = selected; cache = c; pushes = []; fault = Some (Discover f) })
       (λ k s.
-        let p = push (m .keys) c k s in
-        by-result (p .answer)
-        (λ serial. pushing-first (record { serial = serial; worker = s }) (read-feed budget (left .after) selected (p .after)))
-        (λ e. record { feed = left .after; selected = selected; cache = p .after; pushes = []; fault = Some (Push e) }))
+      let p = push (m .keys) c k s in
+      by-result (p .answer)
+      (λ serial. pushing-first (record { serial = serial; worker = s }) (read-feed budget (left .after) selected (p .after)))
+      (λ e. record { feed = left .after; selected = selected; cache = p .after; pushes = []; fault = Some (Push e) }))
       (λ k. read-feed budget (left .after) (still-selected selected (length (c .ready)) (ready-place (m .keys) k (c .ready))) (evict (m .keys) c k .after))
 
   -- `poll_pending` until it no longer fails; each worker that fails leaves, so `fuel` above the pending length never runs out
@@ -233,8 +233,8 @@ module _ {K S Q A E W D F R : Type 0} (m : Meanings K S Q A E W D F R) (now : �
       let settled = settle (suc (length (fed .cache .pending))) (fed .cache) in
       by-some (fed .fault)
       (by-some (settled .stuck)
-        (ended b fed settled (select (fed .selected) (settled .cache) (b .words)))
-        (λ k. faulted b fed (NoPlace k) (settled .cache) (settled .asked)))
+      (ended b fed settled (select (fed .selected) (settled .cache) (b .words)))
+      (λ k. faulted b fed (NoPlace k) (settled .cache) (settled .asked)))
       (λ fault. faulted b fed fault (fed .cache) [])
 
   abbrev pub refused : State K S D R → CallError → Outcome (Result (Sent A) CallError) (State K S D R)
@@ -243,18 +243,18 @@ module _ {K S Q A E W D F R : Type 0} (m : Meanings K S Q A E W D F R) (now : �
   -- the request is handed to the ready worker at a place, and noted where it is taken
   abbrev pub call-at : State K S D R → Q → ℕ → Outcome (Result (Sent A) CallError) (State K S D R)
   call-at st q i = by-some (at (st .cache .ready) i)
-    (refused st (error.Cache NotReady))
-    (λ e.
+      (refused st (error.Cache NotReady))
+      (λ e.
       let k = cache.call (m .keys) (m .endpoints) now (st .cache) i q in
       let b = st .balancer in
       by-result (k .answer)
       (λ response. outcome
-        (Ok (record { ticket = st .docket .next; reached = e .serial; response = response }))
-        (record {
-          balancer = record { feed = b .feed; words = b .words; budget = b .budget; selected = None; fresh = false };
-          cache = k .after;
-          docket = noted (st .docket) (e .serial) now;
-        }))
+      (Ok (record { ticket = st .docket .next; reached = e .serial; response = response }))
+      (record {
+        balancer = record { feed = b .feed; words = b .words; budget = b .budget; selected = None; fresh = false };
+        cache = k .after;
+        docket = noted (st .docket) (e .serial) now;
+      }))
       (λ r. refused st (error.Cache r)))
 
   -- `call`: is the mark fresh, does the docket take a record, and then what cache and endpoint ask
@@ -262,8 +262,8 @@ module _ {K S Q A E W D F R : Type 0} (m : Meanings K S Q A E W D F R) (now : �
   call st q =
       cond (not (st .balancer .fresh)) (refused st error.NotFresh)
       (by-some (docket-refuses (st .docket))
-        (by-some (st .balancer .selected) (refused st (error.Cache NotReady)) (call-at st q))
-        (λ r. refused st (error.Docket r)))
+      (by-some (st .balancer .selected) (refused st (error.Cache NotReady)) (call-at st q))
+      (λ r. refused st (error.Docket r)))
 
   abbrev pub held-or-gone : Bool → Completion
   held-or-gone held = cond held Held Gone
@@ -275,5 +275,5 @@ module _ {K S Q A E W D F R : Type 0} (m : Meanings K S Q A E W D F R) (now : �
       by-some (gone .answer)
       (record { answer = Err UnknownTicket; cache = c; docket = d })
       (λ r.
-        let told = finish (m .endpoints) now c (r .serial) (r .sent) in
-        record { answer = Ok (held-or-gone (told .answer)); cache = told .after; docket = gone .after })
+      let told = finish (m .endpoints) now c (r .serial) (r .sent) in
+      record { answer = Ok (held-or-gone (told .answer)); cache = told .after; docket = gone .after })

@@ -3,8 +3,8 @@ use crate::answer::CallError;
 use crate::answer::CompleteError;
 use crate::answer::Completion;
 use crate::answer::PollError;
-use crate::answer::Polled;
 use crate::answer::PollErrorClone;
+use crate::answer::Polled;
 
 // A poll, a call with its request, or a completion of a ticket, each at an instant.
 #[derive(Clone, Copy)]

@@ -40,9 +40,9 @@ module _ {K S Q A E W : Type 0} (keys : Sameness K) (ends : Endpoints S Q A E W)
   finish-other x n (e ∷ es) serial sent ne =
       cond-case (λ (xs : List (Entry K S)). total (worker (is-pair x n)) xs ≡ total (worker (is-pair x n)) (e ∷ es)) (eqb (e .serial) serial) _ _
       (λ t.
-        let q = eqb-true (e .serial) serial t in
-        let z : eqb (e .serial) x ≡ false = ne-eqb (e .serial) x (λ p. ne (sym p ∙ q)) in
-        rw z refl)
+      let q = eqb-true (e .serial) serial t in
+      let z : eqb (e .serial) x ≡ false = ne-eqb (e .serial) x (λ p. ne (sym p ∙ q)) in
+      rw z refl)
       (λ _. ap (λ (y : ℕ). worker (is-pair x n) e + y) (finish-other x n es serial sent ne))
 
   pairs-le : (x n : ℕ) (xs : List (Entry K S)) → total (worker (is-pair x n)) xs ≤ total (worker (is-serial x)) xs
@@ -55,9 +55,9 @@ module _ {K S Q A E W : Type 0} (keys : Sameness K) (ends : Endpoints S Q A E W)
       cond-case (λ (xs : List (Entry K S)). 1 ≤ total (worker (is-pair serial n)) xs → (n′ : ℕ) × (1 ≤ total (worker (is-pair serial n′)) (e ∷ es)) × (n ≡ n′ - 1)) (eqb (e .serial) serial) _ _
       (λ t one. here t one)
       (λ t one.
-        let z : is-pair serial n (e .serial) (ends .count (e .endpoint)) ≡ 0 = rw t refl in
-        let r = finish-own n es serial sent (omega arith) (omega arith) in
-        (r .0, omega (arith, r .1), r .2))
+      let z : is-pair serial n (e .serial) (ends .count (e .endpoint)) ≡ 0 = rw t refl in
+      let r = finish-own n es serial sent (omega arith) (omega arith) in
+      (r .0, omega (arith, r .1), r .2))
     where
       here : eqb (e .serial) serial ≡ true → 1 ≤ is-pair serial n (e .serial) (ends .count (ends .finished (e .endpoint) sent now)) + total (worker (is-pair serial n)) es → (n′ : ℕ) × (1 ≤ total (worker (is-pair serial n′)) (e ∷ es)) × (n ≡ n′ - 1)
       here t one =
@@ -126,10 +126,10 @@ module _ {K S Q A E W : Type 0} (keys : Sameness K) (ends : Endpoints S Q A E W)
     size = let a = finish-keeps (worker (λ s n. 1)) (λ e y. refl) (c .ready) serial sent in omega arith;
     others = λ x n ne. let a = finish-other x n (c .ready) serial sent ne in omega arith;
     own = λ n le one.
-      let a = some-serial serial (c .ready) has in
-      let b = pairs-le serial n (c .pending) in
-      let r = finish-own n (c .ready) serial sent (omega arith) (omega arith) in
-      (r .0, omega (arith, r .1), r .2);
+        let a = some-serial serial (c .ready) has in
+        let b = pairs-le serial n (c .pending) in
+        let r = finish-own n (c .ready) serial sent (omega arith) (omega arith) in
+        (r .0, omega (arith, r .1), r .2);
     next = refl;
     capacity = refl;
     still = λ i e p. at-finish (c .ready) serial sent i e p;
@@ -142,10 +142,10 @@ module _ {K S Q A E W : Type 0} (keys : Sameness K) (ends : Endpoints S Q A E W)
     size = let a = finish-keeps (worker (λ s n. 1)) (λ e y. refl) (c .pending) serial sent in omega arith;
     others = λ x n ne. let a = finish-other x n (c .pending) serial sent ne in omega arith;
     own = λ n le one.
-      let a = no-serial serial (c .ready) has in
-      let b = pairs-le serial n (c .ready) in
-      let r = finish-own n (c .pending) serial sent (omega arith) (omega arith) in
-      (r .0, omega (arith, r .1), r .2);
+        let a = no-serial serial (c .ready) has in
+        let b = pairs-le serial n (c .ready) in
+        let r = finish-own n (c .pending) serial sent (omega arith) (omega arith) in
+        (r .0, omega (arith, r .1), r .2);
     next = refl;
     capacity = refl;
     still = λ i e p. record { entry = e; stands = p; serial = refl; grant = refl };
@@ -158,11 +158,11 @@ module _ {K S Q A E W : Type 0} (keys : Sameness K) (ends : Endpoints S Q A E W)
     size = omega arith;
     others = λ x n ne. refl;
     own = λ n le one.
-      let p = no-serial serial (c .ready) a in
-      let q = no-serial serial (c .pending) b in
-      let r = pairs-le serial n (c .ready) in
-      let t = pairs-le serial n (c .pending) in
-      absurd (omega arith);
+        let p = no-serial serial (c .ready) a in
+        let q = no-serial serial (c .pending) b in
+        let r = pairs-le serial n (c .ready) in
+        let t = pairs-le serial n (c .pending) in
+        absurd (omega arith);
     next = refl;
     capacity = refl;
     still = λ i e p. record { entry = e; stands = p; serial = refl; grant = refl };
@@ -174,5 +174,5 @@ module _ {K S Q A E W : Type 0} (keys : Sameness K) (ends : Endpoints S Q A E W)
       cond-case (λ (o : Outcome Bool (Cache K S)). Told c (o .after) serial) (isSome (place-of (has-serial serial) (c .ready))) _ _
       (λ has. told-ready c serial sent has)
       (λ not-ready. cond-case (λ (o : Outcome Bool (Cache K S)). Told c (o .after) serial) (isSome (place-of (has-serial serial) (c .pending))) _ _
-        (λ _. told-pending c serial sent not-ready)
-        (λ not-pending. told-nobody c serial not-ready not-pending))
+      (λ _. told-pending c serial sent not-ready)
+      (λ not-pending. told-nobody c serial not-ready not-pending))

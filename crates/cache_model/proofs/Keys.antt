@@ -113,6 +113,7 @@ module _ {K S : Type 0} (keys : Sameness K) where
     where
       back : List (Entry K S)
       back = record { key = e .key; endpoint = e .endpoint; serial = e .serial; cancelled = false } ∷ []
+
       go : any-live keys (e .key) ps ≡ false → (b : Bool) → keys .same k (e .key) ≡ b → total (of-live k) (ps ++ back) ≤ 1
       go n true p = let z = none-live k (e .key) ps (T-of p) n in let s = total-append (of-live k) ps back in let o = one-if-le (keys .same k (e .key) && true) in omega arith
       go n false p = let s = total-append (of-live k) ps back in let o : total (of-live k) back ≡ 0 = rw p refl in omega arith

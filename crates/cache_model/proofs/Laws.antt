@@ -89,14 +89,14 @@ module _ {K S Q A E W : Type 0} (keys : Sameness K) (ends : Endpoints S Q A E W)
       some-case Goal (at (c .ready) i) _ _
       (λ _. from-keeps c c (keeps-refl keys ends c))
       (λ e here. some-case Goal (refused-by ends (e .endpoint)) _ _
-        (λ _. let mine : Entry K S = holding e (ends .accepted (e .endpoint) q now .after) in record {
-          serials = λ s. let h = total-swap (of-worker keys ends (is-serial s)) (c .ready) i e here in let g = aside-sum keys ends (is-serial s) mine (c .pending) in omega arith;
-          size = let h = total-swap (of-worker keys ends one-each) (c .ready) i e here in let g = aside-sum keys ends one-each mine (c .pending) in omega arith;
-          single = λ s. record { ready = λ k. le-trans (total-swap-le (of-key keys k) (c .ready) i) (s .ready k); pending = λ k. aside-single keys k mine (c .pending) (s .pending k) };
-          next = refl;
-          capacity = refl;
-        })
-        (λ r _. from-keeps c c (keeps-refl keys ends c)))
+      (λ _. let mine : Entry K S = holding e (ends .accepted (e .endpoint) q now .after) in record {
+        serials = λ s. let h = total-swap (of-worker keys ends (is-serial s)) (c .ready) i e here in let g = aside-sum keys ends (is-serial s) mine (c .pending) in omega arith;
+        size = let h = total-swap (of-worker keys ends one-each) (c .ready) i e here in let g = aside-sum keys ends one-each mine (c .pending) in omega arith;
+        single = λ s. record { ready = λ k. le-trans (total-swap-le (of-key keys k) (c .ready) i) (s .ready k); pending = λ k. aside-single keys k mine (c .pending) (s .pending k) };
+        next = refl;
+        capacity = refl;
+      })
+      (λ r _. from-keeps c c (keeps-refl keys ends c)))
 
   taken-holds : (c : Cache K S) (k : K) (s : S) → held c < c .capacity → Holds c → Holds (taken-in keys c k s)
   taken-holds c k s room h = record {
@@ -156,13 +156,13 @@ module _ {K S Q A E W : Type 0} (keys : Sameness K) (ends : Endpoints S Q A E W)
   pub serials-once : (c : Cache K S) → ((s : ℕ) → sums (is-serial s) c ≤ 1) → ((s : ℕ) → c .next ≤ s → sums (is-serial s) c ≡ 0) → Serials-once c
   serials-once c once below = record {
     once = λ s.
-      let a = how-many-total (has-serial s) (c .ready ++ c .pending) in
-      let b = total-append (λ (e : Entry K S). one-if (has-serial s e)) (c .ready) (c .pending) in
-      let o = once s in
-      omega arith;
+        let a = how-many-total (has-serial s) (c .ready ++ c .pending) in
+        let b = total-append (λ (e : Entry K S). one-if (has-serial s e)) (c .ready) (c .pending) in
+        let o = once s in
+        omega arith;
     below = each-append (λ e. e .serial < c .next) (c .ready) (c .pending)
-      (each-below (c .next) (c .ready) (λ s above. let a = below s above in omega arith))
-      (each-below (c .next) (c .pending) (λ s above. let a = below s above in omega arith));
+        (each-below (c .next) (c .ready) (λ s above. let a = below s above in omega arith))
+        (each-below (c .next) (c .pending) (λ s above. let a = below s above in omega arith));
   }
 
   pub keys-once : (c : Cache K S) → Single keys ends c → Keys-once keys c

@@ -33,8 +33,8 @@ module _ {K S Q A E W : Type 0} (keys : Sameness K) (ends : Endpoints S Q A E W)
       cond-case Goal (not (ltb (held c) (c .capacity))) _ _
       (λ _ e. absurd (no-err e))
       (λ _. cond-case Goal (not (ltb (c .next) (2 ^ 64 - 1))) _ _
-        (λ _ e. absurd (no-err e))
-        (λ _ e. (cc, refl)))
+      (λ _ e. absurd (no-err e))
+      (λ _ e. (cc, refl)))
 
   pub pushed-sum : (f : ℕ → ℕ → ℕ) (c : Cache K S) (k : K) (s : S) → sum-held keys ends f (taken-in keys c k s) ≡ sum-held keys ends f c + f (c .next) (ends .count s)
   pushed-sum f c k s =
@@ -49,10 +49,10 @@ module _ {K S Q A E W : Type 0} (keys : Sameness K) (ends : Endpoints S Q A E W)
   }
     where
       go : (j : K) (b : Bool) → keys .same j k ≡ b →
-        total (of-live keys j) (cancel keys k (c .pending) ++ (entry k s (c .next) ∷ [])) ≡ total (of-live keys j) (cancel keys k (c .pending)) + (one-if (keys .same j k && true) + 0) →
-        total (of-live keys j) (c .pending) ≤ 1 → total (of-live keys j) (cancel keys k (c .pending)) ≤ total (of-live keys j) (c .pending) →
-        (T (keys .same j k) → total (of-live keys j) (c .pending) ≤ 1 → total (of-live keys j) (cancel keys k (c .pending)) ≡ 0) →
-        total (of-live keys j) (cancel keys k (c .pending) ++ (entry k s (c .next) ∷ [])) ≤ 1
+          total (of-live keys j) (cancel keys k (c .pending) ++ (entry k s (c .next) ∷ [])) ≡ total (of-live keys j) (cancel keys k (c .pending)) + (one-if (keys .same j k && true) + 0) →
+          total (of-live keys j) (c .pending) ≤ 1 → total (of-live keys j) (cancel keys k (c .pending)) ≤ total (of-live keys j) (c .pending) →
+          (T (keys .same j k) → total (of-live keys j) (c .pending) ≤ 1 → total (of-live keys j) (cancel keys k (c .pending)) ≡ 0) →
+          total (of-live keys j) (cancel keys k (c .pending) ++ (entry k s (c .next) ∷ [])) ≤ 1
       go j true p a one less all = let z = all (T-of p) one in let o = one-if-le (keys .same j k && true) in omega arith
       go j false p a one less all = let o : one-if (keys .same j k && true) ≡ 0 = rw p refl in omega arith
 
@@ -63,8 +63,8 @@ module _ {K S Q A E W : Type 0} (keys : Sameness K) (ends : Endpoints S Q A E W)
       cond-case Goal (not (ltb (held c) (c .capacity))) _ _
       (λ _ _. refl)
       (λ _. cond-case Goal (not (ltb (c .next) (2 ^ 64 - 1))) _ _
-        (λ _ _. refl)
-        (λ _ x. absurd (no-ok x)))
+      (λ _ _. refl)
+      (λ _ x. absurd (no-ok x)))
 
   -- either way
   pub push-cases : (c : Cache K S) (k : K) (s : S) → (push keys c k s .after ≡ c) ⊎ ((push keys c k s .after ≡ taken-in keys c k s) × (held c < c .capacity))
@@ -73,5 +73,5 @@ module _ {K S Q A E W : Type 0} (keys : Sameness K) (ends : Endpoints S Q A E W)
       cond-case Goal (not (ltb (held c) (c .capacity))) _ _
       (λ _. inl refl)
       (λ room. cond-case Goal (not (ltb (c .next) (2 ^ 64 - 1))) _ _
-        (λ _. inl refl)
-        (λ _. inr (refl, ltb-true (held c) (c .capacity) (not-false (ltb (held c) (c .capacity)) room))))
+      (λ _. inl refl)
+      (λ _. inr (refl, ltb-true (held c) (c .capacity) (not-false (ltb (held c) (c .capacity)) room))))

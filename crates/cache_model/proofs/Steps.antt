@@ -74,12 +74,14 @@ module _ {K S Q A E W : Type 0} (keys : Sameness K) (ends : Endpoints S Q A E W)
       (λ _. record {
         sums = λ f. let h = cancel-sum f k (c .pending) in omega arith;
         single = λ s. record { ready = s .ready; pending = λ j. le-trans (cancel-less keys j k (c .pending)) (s .pending j) };
-        next = refl; capacity = refl;
+        next = refl;
+        capacity = refl;
       })
       (λ i _. record {
         sums = λ f. let h = cancel-sum f k (c .pending) in let g = total-swap-le (of-worker f) (c .ready) i in omega arith;
         single = λ s. record { ready = λ j. le-trans (total-swap-le (of-key keys j) (c .ready) i) (s .ready j); pending = λ j. le-trans (cancel-less keys j k (c .pending)) (s .pending j) };
-        next = refl; capacity = refl;
+        next = refl;
+        capacity = refl;
       })
 
   -- an answer leaves the worker's number
@@ -111,27 +113,27 @@ module _ {K S Q A E W : Type 0} (keys : Sameness K) (ends : Endpoints S Q A E W)
           pending = λ k. let h = ih .pending k in omega arith;
         })
         (λ _. readiness-case (λ (p : Passed K S E). Goal (asking-first (question e) p)) (ends .polled (e .endpoint) now .answer) _ _ _
-          (λ _. cond-case (λ (p : Passed K S E). Goal (asking-first (question e) p)) (has-place keys capacity rs (e .key)) _ _
-            (λ _. let ih = pass-keeps capacity (promote keys mine rs) kept es in record {
-              sums = λ f. let h = ih .sums f in let g = promote-sum f mine rs in let w = same-worker f e now in omega arith;
-              ready = λ h. ih .ready (λ k. promote-single keys k mine rs (h k));
-              pending = λ k. let h = ih .pending k in omega arith;
-            })
-            (λ _. record {
-              sums = λ f. let h = total-append (of-worker f) kept (mine ∷ es) in let w = same-worker f e now in omega arith;
-              ready = λ h. h;
-              pending = λ k. let h = total-append (of-live keys k) kept (mine ∷ es) in omega arith;
-            }))
-          (λ _. let ih = pass-keeps capacity rs (kept ++ (mine ∷ [])) es in record {
-            sums = λ f. let h = ih .sums f in let g = total-append (of-worker f) kept (mine ∷ []) in let w = same-worker f e now in omega arith;
-            ready = ih .ready;
-            pending = λ k. let h = ih .pending k in let g = total-append (of-live keys k) kept (mine ∷ []) in omega arith;
-          })
-          (λ x _. record {
-            sums = λ f. let h = total-append (of-worker f) kept es in omega arith;
-            ready = λ h. h;
-            pending = λ k. let h = total-append (of-live keys k) kept es in omega arith;
-          }))
+        (λ _. cond-case (λ (p : Passed K S E). Goal (asking-first (question e) p)) (has-place keys capacity rs (e .key)) _ _
+        (λ _. let ih = pass-keeps capacity (promote keys mine rs) kept es in record {
+          sums = λ f. let h = ih .sums f in let g = promote-sum f mine rs in let w = same-worker f e now in omega arith;
+          ready = λ h. ih .ready (λ k. promote-single keys k mine rs (h k));
+          pending = λ k. let h = ih .pending k in omega arith;
+        })
+        (λ _. record {
+          sums = λ f. let h = total-append (of-worker f) kept (mine ∷ es) in let w = same-worker f e now in omega arith;
+          ready = λ h. h;
+          pending = λ k. let h = total-append (of-live keys k) kept (mine ∷ es) in omega arith;
+        }))
+        (λ _. let ih = pass-keeps capacity rs (kept ++ (mine ∷ [])) es in record {
+          sums = λ f. let h = ih .sums f in let g = total-append (of-worker f) kept (mine ∷ []) in let w = same-worker f e now in omega arith;
+          ready = ih .ready;
+          pending = λ k. let h = ih .pending k in let g = total-append (of-live keys k) kept (mine ∷ []) in omega arith;
+        })
+        (λ x _. record {
+          sums = λ f. let h = total-append (of-worker f) kept es in omega arith;
+          ready = λ h. h;
+          pending = λ k. let h = total-append (of-live keys k) kept es in omega arith;
+        }))
 
     pub poll-pending-keeps : (c : Cache K S) → Keeps c (poll-pending keys ends now c .after)
     poll-pending-keeps c =
@@ -142,7 +144,8 @@ module _ {K S Q A E W : Type 0} (keys : Sameness K) (ends : Endpoints S Q A E W)
             ready = p .ready (s .ready);
             pending = λ k. let h = p .pending k in let g = total-take-drop (of-live keys k) (c .resume) (c .pending) in let t = s .pending k in omega arith;
           };
-          next = refl; capacity = refl;
+          next = refl;
+          capacity = refl;
         }
 
     pub check-keeps : (c : Cache K S) (i : ℕ) → Keeps c (check keys ends now c i .after)
@@ -150,23 +153,26 @@ module _ {K S Q A E W : Type 0} (keys : Sameness K) (ends : Endpoints S Q A E W)
         some-case (λ (k : Asked (Result Bool (Failed K E)) K S E). Keeps c (k .after)) (at (c .ready) i) _ _
         (λ _. keeps-refl c)
         (λ e here.
-          let mine : Entry K S = holding e (ends .polled (e .endpoint) now .after) in
-          readiness-case (λ (k : Asked (Result Bool (Failed K E)) K S E). Keeps c (k .after)) (ends .polled (e .endpoint) now .answer) _ _ _
-          (λ _. record {
-            sums = λ f. let h = total-set (of-worker f) (c .ready) i e mine here (same-worker f e now) in omega arith;
-            single = λ s. record { ready = λ k. let h = total-set (of-key keys k) (c .ready) i e mine here refl in let g = s .ready k in omega arith; pending = s .pending };
-            next = refl; capacity = refl;
-          })
-          (λ _. record {
-            sums = λ f. let h = total-swap (of-worker f) (c .ready) i e here in let g = aside-sum f mine (c .pending) in let w = same-worker f e now in omega arith;
-            single = λ s. record { ready = λ k. le-trans (total-swap-le (of-key keys k) (c .ready) i) (s .ready k); pending = λ k. aside-single keys k mine (c .pending) (s .pending k) };
-            next = refl; capacity = refl;
-          })
-          (λ x _. record {
-            sums = λ f. let h = total-swap-le (of-worker f) (c .ready) i in omega arith;
-            single = λ s. record { ready = λ k. le-trans (total-swap-le (of-key keys k) (c .ready) i) (s .ready k); pending = s .pending };
-            next = refl; capacity = refl;
-          }))
+        let mine : Entry K S = holding e (ends .polled (e .endpoint) now .after) in
+        readiness-case (λ (k : Asked (Result Bool (Failed K E)) K S E). Keeps c (k .after)) (ends .polled (e .endpoint) now .answer) _ _ _
+        (λ _. record {
+          sums = λ f. let h = total-set (of-worker f) (c .ready) i e mine here (same-worker f e now) in omega arith;
+          single = λ s. record { ready = λ k. let h = total-set (of-key keys k) (c .ready) i e mine here refl in let g = s .ready k in omega arith; pending = s .pending };
+          next = refl;
+          capacity = refl;
+        })
+        (λ _. record {
+          sums = λ f. let h = total-swap (of-worker f) (c .ready) i e here in let g = aside-sum f mine (c .pending) in let w = same-worker f e now in omega arith;
+          single = λ s. record { ready = λ k. le-trans (total-swap-le (of-key keys k) (c .ready) i) (s .ready k); pending = λ k. aside-single keys k mine (c .pending) (s .pending k) };
+          next = refl;
+          capacity = refl;
+        })
+        (λ x _. record {
+          sums = λ f. let h = total-swap-le (of-worker f) (c .ready) i in omega arith;
+          single = λ s. record { ready = λ k. le-trans (total-swap-le (of-key keys k) (c .ready) i) (s .ready k); pending = s .pending };
+          next = refl;
+          capacity = refl;
+        }))
 
     -- reading a load
     pub load-keeps : (c : Cache K S) (i : ℕ) → Keeps c (load ends now c i .after)
@@ -174,9 +180,10 @@ module _ {K S Q A E W : Type 0} (keys : Sameness K) (ends : Endpoints S Q A E W)
         some-case (λ (o : Outcome (Option W) (Cache K S)). Keeps c (o .after)) (at (c .ready) i) _ _
         (λ _. keeps-refl c)
         (λ e here.
-          let mine : Entry K S = holding e (ends .loaded (e .endpoint) now) in
-          record {
-            sums = λ f. let h = total-set (of-worker f) (c .ready) i e mine here (ap (f (e .serial)) (ends .loaded-count (e .endpoint) now)) in omega arith;
-            single = λ s. record { ready = λ k. let h = total-set (of-key keys k) (c .ready) i e mine here refl in let g = s .ready k in omega arith; pending = s .pending };
-            next = refl; capacity = refl;
-          })
+        let mine : Entry K S = holding e (ends .loaded (e .endpoint) now) in
+        record {
+          sums = λ f. let h = total-set (of-worker f) (c .ready) i e mine here (ap (f (e .serial)) (ends .loaded-count (e .endpoint) now)) in omega arith;
+          single = λ s. record { ready = λ k. let h = total-set (of-key keys k) (c .ready) i e mine here refl in let g = s .ready k in omega arith; pending = s .pending };
+          next = refl;
+          capacity = refl;
+        })

@@ -118,11 +118,11 @@ module _ {K S Q A E W : Type 0} (keys : Sameness K) (ends : Endpoints S Q A E W)
       let mine : Entry K S = holding e (left .after) in
       cond (e .cancelled) (pass capacity rs kept es)
       (asking-first question (by-readiness (left .answer)
-        (cond (has-place keys capacity rs (e .key))
-          (pass capacity (promote keys mine rs) kept es)
-          (record { ready = rs; kept = kept; rest = mine ∷ es; fault = Some (error.NoPlace (e .key)); asked = [] }))
-        (pass capacity rs (kept ++ (mine ∷ [])) es)
-        (λ x. record { ready = rs; kept = kept; rest = es; fault = Some (error.Failed (record { key = e .key; error = x })); asked = [] })))
+      (cond (has-place keys capacity rs (e .key))
+      (pass capacity (promote keys mine rs) kept es)
+      (record { ready = rs; kept = kept; rest = mine ∷ es; fault = Some (error.NoPlace (e .key)); asked = [] }))
+      (pass capacity rs (kept ++ (mine ∷ [])) es)
+      (λ x. record { ready = rs; kept = kept; rest = es; fault = Some (error.Failed (record { key = e .key; error = x })); asked = [] })))
 
   -- a pass that stops resumes at what it did not come to; one that reaches the end, at the start
   abbrev pub passed : Cache K S → Passed K S E → Asked (Result (Poll (Unit {0})) (PendingError K E)) K S E
@@ -147,8 +147,8 @@ module _ {K S Q A E W : Type 0} (keys : Sameness K) (ends : Endpoints S Q A E W)
   -- `check_ready_index` asks the ready entry at a place
   abbrev pub check : Cache K S → ℕ → Asked (Result Bool (Failed K E)) K S E
   check c i = by-some (at (c .ready) i)
-    (record { answer = Ok false; after = c; asked = [] })
-    (λ e.
+      (record { answer = Ok false; after = c; asked = [] })
+      (λ e.
       let left = ends .polled (e .endpoint) now in
       let mine : Entry K S = holding e (left .after) in
       let question : List (Question E) = record { serial = e .serial; answer = left .answer } ∷ [] in
@@ -164,10 +164,10 @@ module _ {K S Q A E W : Type 0} (keys : Sameness K) (ends : Endpoints S Q A E W)
   -- `call_ready_index` hands a request to the ready entry at a place, which then goes to pending
   abbrev pub call : Cache K S → ℕ → Q → Outcome (Result A CallRefusal) (Cache K S)
   call c i q = by-some (at (c .ready) i)
-    (outcome (Err NotReady) c)
-    (λ e. by-some (refused-by ends (e .endpoint))
+      (outcome (Err NotReady) c)
+      (λ e. by-some (refused-by ends (e .endpoint))
       (let left = ends .accepted (e .endpoint) q now in
-       outcome (Ok (left .answer)) (with-lists c (swap-remove (c .ready) i) (set-aside keys (holding e (left .after)) (c .pending))))
+      outcome (Ok (left .answer)) (with-lists c (swap-remove (c .ready) i) (set-aside keys (holding e (left .after)) (c .pending))))
       (λ r. outcome (Err (as-call r)) c))
 
   -- `call_ready` hands a request to the ready entry of a key
@@ -192,5 +192,5 @@ module _ {K S Q A E W : Type 0} (ends : Endpoints S Q A E W) (now : ℕ) where
   -- `load_ready_index` reads the weight of the ready entry at a place
   abbrev pub load : Cache K S → ℕ → Outcome (Option W) (Cache K S)
   load c i = by-some (at (c .ready) i)
-    (outcome None c)
-    (λ e. outcome (Some (ends .weight (e .endpoint) now)) (with-lists c (set (c .ready) i (holding e (ends .loaded (e .endpoint) now))) (c .pending)))
+      (outcome None c)
+      (λ e. outcome (Some (ends .weight (e .endpoint) now)) (with-lists c (set (c .ready) i (holding e (ends .loaded (e .endpoint) now))) (c .pending)))

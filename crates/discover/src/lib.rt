@@ -9,7 +9,9 @@ use service::Key;
 
 pub trait Discover {
     type Key: Key;
+
     type Service: Copy;
+
     type Error: Copy;
 
     ghost feeds: { Feeds Self (Self·Key) (Self·Service) (Self·Error) };

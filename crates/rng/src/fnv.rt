@@ -3,6 +3,7 @@ ghost use mathlib.Core.Path.{_≡_};
 ghost use Rattle.rng.specs.Fnv.{fnv-1a};
 
 const OFFSET_BASIS: u64 = 14_695_981_039_346_656_037;
+
 const PRIME: u64 = 1_099_511_628_211;
 
 // The hash of the bytes, in their order.

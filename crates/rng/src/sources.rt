@@ -5,7 +5,6 @@ ghost use lib.ListN.{length, getD};
 ghost use Rattle.rng.specs.Words.{nth-word};
 ghost use Rattle.rng.specs.Fnv.{fnv-1a};
 ghost use Rattle.rng.specs.Sources.{list-words, hasher-words, bytes-of};
-
 use crate::Rng;
 use crate::fnv::fnv1a;
 use crate::hasher_rng::HasherRng;

@@ -29,6 +29,7 @@ floyd-two n x y h i = go (eqb-tells x y)
   where
     last : suc (n - 2) ≡ n - 1
     last = omega arith
+
     go : ((eqb x y ≡ true) × (x ≡ y)) ⊎ ((eqb x y ≡ false) × (x ≡ y → ⊥)) → member i (places n x y) ≡ member i (floyd n (x ∷ y ∷ []))
     go (inl t) = let e : eqb y x ≡ true = eqb-flip y x ∙ t .0 in rw (t .0, e, last) (ap (λ (z : ℕ). eqb i (n - 1) || (eqb i z || false)) (sym (t .1)))
     go (inr t) = let e : eqb y x ≡ false = eqb-flip y x ∙ t .0 in rw (t .0, e) (either-way (eqb i x) (eqb i y))

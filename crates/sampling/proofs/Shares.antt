@@ -143,7 +143,7 @@ module _ (lighter : ℕ → ℕ → Bool) where
 
   -- 2H + E of the remainder pairs draw the place i
   pub share : (m i : ℕ) → i < suc m → ((j : ℕ) → j < suc m → T (lighter j i || lighter i j)) →
-    sum-below m (λ x. sum-below (suc m) (λ y. one-if (eqb (winner lighter (cond (eqb x y) m x) y) i))) ≡ 2 * sum-below (suc m) (more i) + sum-below (suc m) (same i)
+      sum-below m (λ x. sum-below (suc m) (λ y. one-if (eqb (winner lighter (cond (eqb x y) m x) y) i))) ≡ 2 * sum-below (suc m) (more i) + sum-below (suc m) (same i)
   share m i h total =
       pairs-are-places m (drawn i)
       ∙ all-rows (suc m) i h
@@ -190,11 +190,11 @@ pub one-pair-each : (n : ℕ) → 2 ≤ n → One-pair-each n
 one-pair-each n h = record {
   all = all-pairs n;
   each = λ a b two.
-    let e : n ≡ suc (n - 1) = omega arith in
-    ap (λ (k : ℕ). sum-below (n - 1) (λ x. sum-below k (λ y. one-if (gives n a b x y)))) e
-    ∙ pairs-are-places (n - 1) (here n a b two)
-    ∙ ap (λ (k : ℕ). sum-below k (λ i. sum-below k (apart (here n a b two) i))) (sym e)
-    ∙ one-cell n a b two;
+      let e : n ≡ suc (n - 1) = omega arith in
+      ap (λ (k : ℕ). sum-below (n - 1) (λ x. sum-below k (λ y. one-if (gives n a b x y)))) e
+      ∙ pairs-are-places (n - 1) (here n a b two)
+      ∙ ap (λ (k : ℕ). sum-below k (λ i. sum-below k (apart (here n a b two) i))) (sym e)
+      ∙ one-cell n a b two;
 }
 
 pub fair-shares : (n : ℕ) → 2 ≤ n → Fair-shares n

@@ -50,8 +50,8 @@ pub record Services (S Q A E : Type 0) : Type 0 where
 abbrev pub service-called : {S Q A E : Type 0} → Services S Q A E → S → Q → ℕ → Outcome (Result A ServiceRefusal) S
 service-called m s q at =
     by-some (m .grant s)
-      (outcome (Err of-service.NoGrant) s)
-      (λ _. outcome (Ok (m .accepted s q at .answer)) (m .accepted s q at .after))
+    (outcome (Err of-service.NoGrant) s)
+    (λ _. outcome (Ok (m .accepted s q at .answer)) (m .accepted s q at .after))
 
 -- a call is refused at this count of requests out, and above
 abbrev pub ceiling : ℕ
@@ -87,5 +87,5 @@ refused-by m s = by-some (m .grant s) (Some NoGrant) (λ _. cond (ltb (m .count 
 abbrev pub endpoint-called : {S Q A E W : Type 0} → Endpoints S Q A E W → S → Q → ℕ → Outcome (Result A EndpointRefusal) S
 endpoint-called m s q at =
     by-some (refused-by m s)
-      (outcome (Ok (m .accepted s q at .answer)) (m .accepted s q at .after))
-      (λ r. outcome (Err r) s)
+    (outcome (Ok (m .accepted s q at .answer)) (m .accepted s q at .after))
+    (λ r. outcome (Err r) s)

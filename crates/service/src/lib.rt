@@ -29,7 +29,9 @@ pub trait Weight: Copy {
 // A bare service: it says whether it is ready, and takes a request after it said so.
 pub trait Service: Copy {
     type Request: Copy;
+
     type Response: Copy;
+
     type Error: Copy;
 
     ghost serves: { Services Self (Self·Request) (Self·Response) (Self·Error) };
@@ -46,8 +48,11 @@ pub trait Service: Copy {
 // A service that also counts its requests out and has a weight.
 pub trait Endpoint: Copy {
     type Request: Copy;
+
     type Response: Copy;
+
     type Error: Copy;
+
     type Metric: Weight;
 
     ghost means: { Endpoints Self (Self·Request) (Self·Response) (Self·Error) (Self·Metric) };
