@@ -6,6 +6,8 @@ use lib.Dec.{ltb, eqb}
 use lib.ListN.{length}
 use Rattle.std.specs.declared.option.Option.{Option}
 use Rattle.std.specs.declared.option.Option.the-variants.{Some, None}
+use Rattle.std.specs.declared.result.Result.{Result}
+use Rattle.std.specs.declared.result.Result.the-variants.{Ok, Err}
 use Rattle.model.specs.Outcome.{Outcome, outcome}
 use Rattle.model.specs.Options.{by-some}
 use Rattle.model.specs.Lists.{place-of, at, swap-remove}
@@ -32,6 +34,10 @@ docket-refuses d = cond (not (ltb (length (d .records)) (d .capacity))) (Some Fu
 -- a request goes to a worker at an instant, under the next ticket
 abbrev pub noted : Docket → ℕ → ℕ → Docket
 noted d serial sent = record { records = d .records ++ (record { ticket = d .next; serial = serial; sent = sent } ∷ []); next = d .next + 1; capacity = d .capacity }
+
+-- the same, unless the docket refuses; the answer is the ticket
+abbrev pub note : Docket → ℕ → ℕ → Outcome (Result ℕ DocketRefusal) Docket
+note d serial sent = by-some (docket-refuses d) (outcome (Ok (d .next)) (noted d serial sent)) (λ r. outcome (Err r) d)
 
 -- the place of a ticket's record
 abbrev pub ticket-place : Docket → ℕ → Option ℕ
