@@ -36,6 +36,19 @@ pub trait Rng {
     }
 }
 
+// Two places by two words: the first below length - 1, the second below length; where they are equal, the first becomes the last place.
+fn two_places<R: Rng>(rng: &mut R, length: u64) -> [u64; 2]
+    ensures answer { λ r. ⌜ r ≡ sample source (now (rng .entry)) length .answer ⌝ }
+    ensures after { λ _. ⌜ now (rng .exit) ≡ sample source (now (rng .entry)) length .after ⌝ }
+{
+    if length < 2 {
+        return [0, 0];
+    }
+    let a = rng.next_range(0..length - 1);
+    let b = rng.next_range(0..length);
+    if a == b { [length - 1, b] } else { [a, b] }
+}
+
 // Two different places below `length`, by two words; below two places it answers [0, 0] and takes no word.
 pub fn sample_floyd2<R: Rng>(rng: &mut R, length: u64) -> [u64; 2]
     ensures answer { λ r. ⌜ r ≡ sample source (now (rng .entry)) length .answer ⌝ }
@@ -45,10 +58,5 @@ pub fn sample_floyd2<R: Rng>(rng: &mut R, length: u64) -> [u64; 2]
     ensures pairs { λ _. ⌜ (2 ≤ length → One-pair-each length) ⌝ }
     ensures shares { λ _. ⌜ (2 ≤ length → Fair-shares length) ⌝ }
 {
-    if length < 2 {
-        return [0, 0];
-    }
-    let a = rng.next_range(0..length - 1);
-    let b = rng.next_range(0..length);
-    if a == b { [length - 1, b] } else { [a, b] }
+    two_places(rng, length)
 }
