@@ -9,3 +9,4 @@ pub mod Calls
 pub mod Completions
 pub mod Taken
 pub mod Promised
+pub mod Loops

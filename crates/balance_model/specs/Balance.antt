@@ -181,6 +181,9 @@ module _ {K S Q A E W D F R : Type 0} (m : Meanings K S Q A E W D F R) (now : �
       (λ k. record { cache = p .after; lost = 0; asked = p .asked; stuck = Some k })
       (λ _. losing-one (p .asked) (settle fuel (p .after)))
 
+  abbrev pub settle-all : Cache K S → Settled K S E
+  settle-all c = settle (suc (length (c .pending))) c
+
   -- the place is checked; where it is not ready, the search goes on by `more`
   abbrev pub try : (Cache K S → R → Sought K S E R) → ℕ → Cache K S → R → Sought K S E R
   try more i c r =
@@ -230,7 +233,7 @@ module _ {K S Q A E W D F R : Type 0} (m : Meanings K S Q A E W D F R) (now : �
   abbrev pub poll : Balancer D R → Cache K S → Poll-outcome K S E D F R
   poll b c =
       let fed = read-feed (b .budget) (b .feed) (b .selected) c in
-      let settled = settle (suc (length (fed .cache .pending))) (fed .cache) in
+      let settled = settle-all (fed .cache) in
       by-some (fed .fault)
       (by-some (settled .stuck)
       (ended b fed settled (select (fed .selected) (settled .cache) (b .words)))

@@ -5,3 +5,4 @@ pub mod Serials
 pub mod Finish
 pub mod Pushes
 pub mod Laws
+pub mod Shrinks

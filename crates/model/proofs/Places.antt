@@ -74,3 +74,14 @@ module _ {A : Type 0} where
           let w : Some (suc j) ≡ Some i = sym (ap one-more q) ∙ e in
           let z : i ≡ suc j = cc in
           ih j x q (subst (λ (k : ℕ). at (y ∷ ys) k ≡ Some x) z f)
+
+  front-length : (x : A) (xs : List A) → length (front x xs) ≡ length xs
+  front-length x [] = refl
+  front-length x (y ∷ ys) = ap suc (front-length y ys)
+
+  -- one item leaves
+  pub swap-length : (xs : List A) (i : ℕ) → i < length xs → suc (length (swap-remove xs i)) ≡ length xs
+  swap-length [] i h = absurd (not-suc-le-zero h)
+  swap-length (x ∷ []) zero h = refl
+  swap-length (x ∷ y ∷ ys) zero h = ap (λ (n : ℕ). suc (suc n)) (front-length y ys)
+  swap-length (x ∷ xs) (suc i) h = ap suc (swap-length xs i (le-of-suc-le-suc h))
