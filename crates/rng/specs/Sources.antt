@@ -26,3 +26,7 @@ bytes-of n =
 -- the hash of the counter's bytes; the counter goes up by one, and from 2^64 - 1 to 0
 abbrev pub hasher-words : Words HasherRng
 hasher-words = record { word = λ r. outcome (fnv-1a (bytes-of (r .counter))) (record { counter = (r .counter + 1) % 2 ^ 64 }) }
+
+-- a newly made source: its counter is at 0
+abbrev pub hasher-start : HasherRng
+hasher-start = record { counter = 0 }

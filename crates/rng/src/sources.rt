@@ -4,7 +4,7 @@ ghost use Prim.Native.Nat.{ℕ, _%_, _^_};
 ghost use lib.ListN.{length, getD};
 ghost use Rattle.rng.specs.Words.{nth-word};
 ghost use Rattle.rng.specs.Fnv.{fnv-1a};
-ghost use Rattle.rng.specs.Sources.{list-words, hasher-words, bytes-of};
+ghost use Rattle.rng.specs.Sources.{list-words, hasher-words, hasher-start, bytes-of};
 use crate::Rng;
 use crate::fnv::fnv1a;
 use crate::hasher_rng::HasherRng;
@@ -13,7 +13,8 @@ use crate::list_rng::ListRng;
 impl HasherRng {
     // A source whose counter starts at 0.
     pub fn new() -> Self
-        ensures { λ r. ⌜ ((k : ℕ) → nth-word hasher-words r k ≡ fnv-1a (bytes-of (k % 2 ^ 64))) ⌝ }
+        ensures value { λ r. ⌜ r ≡ hasher-start ⌝ }
+        ensures words { λ r. ⌜ ((k : ℕ) → nth-word hasher-words r k ≡ fnv-1a (bytes-of (k % 2 ^ 64))) ⌝ }
     {
         HasherRng { counter: 0 }
     }
