@@ -2,6 +2,8 @@
 ghost use mathlib.Core.Path.{_≡_};
 ghost use Rattle.service.specs.Meaning.{Sameness, Weights, Services, Endpoints, service-called, endpoint-called};
 
+pub mod kinds;
+pub mod numbers;
 pub mod poll;
 pub mod readiness;
 pub mod refusal;
