@@ -1,0 +1,49 @@
+use mathlib.Core.Path.{_≡_, refl, sym, ap, _∙_}
+use mathlib.Core.Bool.{_&&_}
+use Prim.Native.Nat.{ℕ, _<_}
+use native.Mathlib.Omega.{arith}
+use lib.Dec.{ltb, leb}
+use lib.ListN.{length}
+use Rattle.std.proofs.shelf.Tests.{and-right, eqb-false}
+use Rattle.keys.specs.Names.{letters-or-digits}
+use Rattle.keys.proofs.Names.{small-so-far, packed-more, not-all, refused, made-of}
+use Rattle.keys.proofs.name.Name.new.Needs as need
+use Rattle.keys.proofs.name.Name.new.Needs.{Else-not-is-ascii-alphanumeric}
+
+pub returns-then-not-is-ascii-alphanumeric : need.returns-then-not-is-ascii-alphanumeric
+returns-then-not-is-ascii-alphanumeric c =
+    let text = c .args .text .now in
+    let i : ℕ = c .loop-byte .byte-index in
+    let other = sym (c .if-not-is-ascii-alphanumeric .ensures tt .value) in
+    record {
+      answer = refused text (and-right (ltb 0 (length text) && leb (length text) 8) (letters-or-digits text) (not-all text i (c .loop-byte-test .taken) other));
+      number = refl;
+      text = tt;
+      same = tt;
+    }
+
+pub mul-letters : need.mul-letters
+mul-letters c = omega (arith, small-so-far (c .args .text .now) (c .loop-byte .byte-index) (c .loop-byte .letters) (c .loop-byte .folded) (c .loop-byte-test .taken) (c .if-text-gt8 .left) (c .loop-byte .inv))
+
+pub add-letters : need.add-letters
+add-letters c = omega (arith, small-so-far (c .args .text .now) (c .loop-byte .byte-index) (c .loop-byte .letters) (c .loop-byte .folded) (c .loop-byte-test .taken) (c .if-text-gt8 .left) (c .loop-byte .inv), c .typed .text (c .loop-byte .byte-index))
+
+pub mul-folded : need.mul-folded
+mul-folded c = omega (arith, small-so-far (c .args .text .now) (c .loop-byte .byte-index) (c .loop-byte .letters) (c .loop-byte .folded) (c .loop-byte-test .taken) (c .if-text-gt8 .left) (c .loop-byte .inv))
+
+pub add-folded : need.add-folded
+add-folded c = omega (arith, small-so-far (c .args .text .now) (c .loop-byte .byte-index) (c .loop-byte .letters) (c .loop-byte .folded) (c .loop-byte-test .taken) (c .if-text-gt8 .left) (c .loop-byte .inv), c .to-ascii-lowercase .ok)
+
+pub loop-byte-again : need.loop-byte-again
+loop-byte-again c =
+    packed-more (c .args .text .now) (c .loop-byte .byte-index) (c .loop-byte .letters) (c .loop-byte .folded) (c .from .result) (c .from-in-loop-byte .result) (c .loop-byte-test .taken) (c .loop-byte .inv)
+    (sym (c .if-not-is-ascii-alphanumeric .ensures tt .value))
+    (c .from .ensures)
+    (c .from-in-loop-byte .ensures ∙ c .to-ascii-lowercase .ensures .value)
+
+pub returns : need.returns
+returns c =
+    let text = c .args .text .now in
+    let some : 0 < length text = omega (arith, eqb-false (length text) 0 (sym (c .if-is-empty .ensures tt))) in
+    let m = made-of text (c .loop-byte .byte-index) (c .loop-byte .letters) (c .loop-byte .folded) some (c .if-text-gt8 .left) (c .loop-byte-test .left) (c .loop-byte .inv) in
+    record { answer = m .answer; number = tt; text = m .text-is; same = m .same }
