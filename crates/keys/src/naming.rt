@@ -11,6 +11,9 @@ use service::Key;
 use service::refusal::Invalid;
 use std::fmt;
 
+// The most letters of a name.
+const LONGEST: usize = 8;
+
 impl Name {
     // The name of this spelling, which has one to eight ASCII letters or digits.
     pub fn new(text: &[u8]) -> Result<Self, Invalid>
@@ -19,7 +22,7 @@ impl Name {
         ensures text { λ r. ⌜ Cases r (λ n. text-of n ≡ now (text .entry)) (λ _. Unit {0}) ⌝ }
         ensures same { λ r. ⌜ Cases r (λ n. Same-without-case (now (text .entry)) n) (λ _. Unit {0}) ⌝ }
     {
-        if text.is_empty() || text.len() > 8 {
+        if text.is_empty() || text.len() > LONGEST {
             return Err(Invalid::Name);
         }
         let mut letters = 0;

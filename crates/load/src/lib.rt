@@ -17,7 +17,9 @@ const CEILING: u32 = 4_294_967_294;
 impl<S: Service> PendingRequests<S> {
     // An endpoint over the service, with no request out.
     pub fn new(service: S) -> Self
-        ensures { λ r. ⌜ r ≡ with-none-out service ⌝ }
+        ensures made { λ r. ⌜ r ≡ with-none-out service ⌝ }
+        ensures count { λ r. ⌜ over (S·Service .serves) .count r ≡ 0 ⌝ }
+        ensures grant { λ r. ⌜ over (S·Service .serves) .grant r ≡ S·Service .serves .grant service ⌝ }
     {
         PendingRequests { service, count: 0 }
     }
@@ -43,13 +45,11 @@ pub impl<S: Service> Endpoint for PendingRequests<S> as PendingRequestsEndpoint 
         if self.count >= CEILING {
             return Err(EndpointRefusal::AtCeiling);
         }
-        match self.service.call(request, at) {
-            Err(_) => Err(EndpointRefusal::NoGrant),
-            Ok(response) => {
-                self.count += 1;
-                Ok(response)
-            }
-        }
+        let Ok(response) = self.service.call(request, at) else {
+            return Err(EndpointRefusal::NoGrant);
+        };
+        self.count += 1;
+        Ok(response)
     }
 
     fn finish(&mut self, _sent: u64, _at: u64) {

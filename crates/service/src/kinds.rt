@@ -21,12 +21,3 @@ pub impl Weight for u32 as CountWeight {
         *self <= *other
     }
 }
-
-// A count or a size of 64 bits.
-pub impl Weight for u64 as LongCountWeight {
-    ghost order = { by-number (λ n. n) };
-
-    fn not_heavier(&self, other: &u64) -> bool {
-        *self <= *other
-    }
-}

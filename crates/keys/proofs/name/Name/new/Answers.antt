@@ -1,6 +1,6 @@
 use mathlib.Core.Path.{_≡_, refl, sym, ap, _∙_}
 use mathlib.Core.Bool.{_&&_}
-use Prim.Native.Nat.{ℕ, _<_}
+use Prim.Native.Nat.{ℕ, _^_, _<_}
 use native.Mathlib.Omega.{arith}
 use lib.Dec.{ltb, leb}
 use lib.ListN.{length}
@@ -22,17 +22,21 @@ returns-then-not-is-ascii-alphanumeric c =
       same = tt;
     }
 
+-- there is place for one more byte
+small : (c : Else-not-is-ascii-alphanumeric) → (c .loop-byte .letters < 2 ^ 56) × (c .loop-byte .folded < 2 ^ 56)
+small c = small-so-far (c .args .text .now) (c .loop-byte .byte-index) (c .loop-byte .letters) (c .loop-byte .folded) (c .loop-byte-test .taken) (c .if-text-gt-LONGEST .left) (c .loop-byte .inv)
+
 pub mul-letters : need.mul-letters
-mul-letters c = omega (arith, small-so-far (c .args .text .now) (c .loop-byte .byte-index) (c .loop-byte .letters) (c .loop-byte .folded) (c .loop-byte-test .taken) (c .if-text-gt8 .left) (c .loop-byte .inv))
+mul-letters c = omega (arith, small c)
 
 pub add-letters : need.add-letters
-add-letters c = omega (arith, small-so-far (c .args .text .now) (c .loop-byte .byte-index) (c .loop-byte .letters) (c .loop-byte .folded) (c .loop-byte-test .taken) (c .if-text-gt8 .left) (c .loop-byte .inv), c .typed .text (c .loop-byte .byte-index))
+add-letters c = omega (arith, small (need.at·add-letters c .Else-not-is-ascii-alphanumeric), c .typed .text (c .loop-byte .byte-index))
 
 pub mul-folded : need.mul-folded
-mul-folded c = omega (arith, small-so-far (c .args .text .now) (c .loop-byte .byte-index) (c .loop-byte .letters) (c .loop-byte .folded) (c .loop-byte-test .taken) (c .if-text-gt8 .left) (c .loop-byte .inv))
+mul-folded c = omega (arith, small (need.at·mul-folded c .Else-not-is-ascii-alphanumeric))
 
 pub add-folded : need.add-folded
-add-folded c = omega (arith, small-so-far (c .args .text .now) (c .loop-byte .byte-index) (c .loop-byte .letters) (c .loop-byte .folded) (c .loop-byte-test .taken) (c .if-text-gt8 .left) (c .loop-byte .inv), c .to-ascii-lowercase .ok)
+add-folded c = omega (arith, small (need.at·add-folded c .Else-not-is-ascii-alphanumeric), c .to-ascii-lowercase .ok)
 
 pub loop-byte-again : need.loop-byte-again
 loop-byte-again c =
@@ -45,5 +49,5 @@ pub returns : need.returns
 returns c =
     let text = c .args .text .now in
     let some : 0 < length text = omega (arith, eqb-false (length text) 0 (sym (c .if-is-empty .ensures tt))) in
-    let m = made-of text (c .loop-byte .byte-index) (c .loop-byte .letters) (c .loop-byte .folded) some (c .if-text-gt8 .left) (c .loop-byte-test .left) (c .loop-byte .inv) in
+    let m = made-of text (c .loop-byte .byte-index) (c .loop-byte .letters) (c .loop-byte .folded) some (c .if-text-gt-LONGEST .left) (c .loop-byte-test .left) (c .loop-byte .inv) in
     record { answer = m .answer; number = tt; text = m .text-is; same = m .same }

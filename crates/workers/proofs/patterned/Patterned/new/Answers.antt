@@ -15,7 +15,7 @@ pub returns : need.returns
 returns c =
     let xs = c .args .pattern .now in
     let n : ℕ = length xs in
-    let few = c .if-pattern-gt32 .left in
+    let few = c .if-pattern-gt-LONGEST .left in
     let is = c .pack .ensures in
     record {
       answer = ap (λ (a : ℕ). Ok (patterned a n 0 0 None)) is ∙ sym (cond-true (leb n 32) _ _ (le-leb n 32 few));

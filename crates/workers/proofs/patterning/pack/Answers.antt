@@ -6,7 +6,7 @@ use Rattle.std.proofs.shelf.Lists.{drop-all}
 use Rattle.workers.specs.declared.answer.Answer.{Answer}
 use Rattle.workers.specs.Patterns.{code, packed}
 use Rattle.workers.proofs.Packs.{code-small, packed-below, packed-more}
-use Rattle.workers.proofs.pack.Needs as need
+use Rattle.workers.proofs.patterning.pack.Needs as need
 
 -- what is packed so far has at most 31 answers
 so-far : (c : need.After-code) → c .loop-i .answers < 4 ^ 31
