@@ -20,10 +20,10 @@ use Rattle.discover.specs.Feeds.{nth-discovered}
 use Rattle.discover.specs.ListFeeds.{in-list, list-feeds}
 
 -- the place after one, up to the length n
-pub on-from : (n i : ℕ) → i < n → i + 1 ≡ cond (ltb i n) (i + 1) i
+on-from : (n i : ℕ) → i < n → i + 1 ≡ cond (ltb i n) (i + 1) i
 on-from n i h = sym (cond-true (ltb i n) _ _ (lt-ltb i n h))
 
-pub stays-at : (n i : ℕ) → n ≤ i → i ≡ cond (ltb i n) (i + 1) i
+stays-at : (n i : ℕ) → n ≤ i → i ≡ cond (ltb i n) (i + 1) i
 stays-at n i h = sym (cond-false (ltb i n) _ _ (le-ltb i n h))
 
 module _ {K S F : Type 0} where
@@ -51,5 +51,9 @@ module _ {K S F : Type 0} where
             ap (λ (j : ℕ). nth-discovered list-feeds (from j) (λ n. instants (suc n)) k) (sym (on-from (length (xs .now)) i h)) ∙ rest ∙ ap (in-list (xs .now)) e
         go (inr h) rest = past (suc k) i instants h ∙ in-list-past (xs .now) (i + suc k) (omega arith)
 
-    pub list-nth : (instants : ℕ → ℕ) (k : ℕ) → nth-discovered list-feeds (from 0) instants k ≡ in-list (xs .now) k
-    list-nth instants k = nth-from k 0 instants ∙ ap (in-list (xs .now)) (zero-add k)
+  pub list-nth : (feed : ListFeed K S F) (xs : List (Discovered K S F)) → feed .next ≡ 0 → feed .answers .now ≡ xs → (instants : ℕ → ℕ) (k : ℕ) → nth-discovered list-feeds feed instants k ≡ in-list xs k
+  list-nth feed xs start list instants k =
+      ap (λ (i : ℕ). nth-discovered list-feeds (from (feed .answers) i) instants k) start
+      ∙ nth-from (feed .answers) k 0 instants
+      ∙ ap (in-list (feed .answers .now)) (zero-add k)
+      ∙ ap (λ ys. in-list ys k) list

@@ -12,6 +12,11 @@ use Rattle.std.specs.Orderings.{Decides}
 use Rattle.std.specs.Text.{Ascii, asciiAlnum, lower}
 use Rattle.std.specs.Vec.{Every as All}
 use Rattle.std.specs.shelf.Digits.{number, numberAfter, digitsOf, Under}
+use Rattle.std.specs.Results.{isOk}
+use Rattle.std.specs.Written.{Prints}
+use Rattle.std.specs.declared.fmt.Error.{Error}
+use Rattle.std.specs.declared.fmt.Formatter.{Formatter}
+use Rattle.std.proofs.Writes.{prints-then}
 use Rattle.std.proofs.shelf.Ascii.{ascii-from-all, encodes-ascii}
 use Rattle.std.proofs.shelf.Bits.{div-mul-add, mod-mul-add}
 use Rattle.std.proofs.shelf.Digits.{digitsOf-step, number-lt, number-push}
@@ -152,7 +157,12 @@ made-of text i letters folded h k l p = of-text text letters folded h k (subst (
 
 -- ---- printed byte by byte
 
-pub shown-more : (n : ℕ) → 0 < n → shown (n / 256) ++ encode (n % 256) ≡ shown n
+shown-more : (n : ℕ) → 0 < n → shown (n / 256) ++ encode (n % 256) ≡ shown n
 shown-more n h =
     let e : encodes (n % 256 ∷ []) ≡ encode (n % 256) = append-nil (encode (n % 256)) in
     sym (ap encodes (digitsOf-step 256 n (omega arith) h) ∙ encodes-append (digitsOf 256 (n / 256)) (n % 256 ∷ []) ∙ ap (λ (l : List ℕ). shown (n / 256) ++ l) e)
+
+pub shown-then : {W : Type 0} (took : W → List ℕ → W → Type 0) (f g h : Formatter W) (r s : Result (Unit {0}) Error) (n b : ℕ) → 0 < n → isOk r ≡ true → b ≡ n % 256 → Prints took f r (shown (n / 256)) g → Prints took g s (encode b) h → Prints took f s (shown n) h
+shown-then took f g h r s n b some ok e p q =
+    let last = subst (λ (c : ℕ). Prints took g s (encode c) h) e q in
+    subst (λ (bs : List ℕ). Prints took f s bs h) (shown-more n some) (prints-then took f g h r s (shown (n / 256)) (encode (n % 256)) (λ _. ok) p last)

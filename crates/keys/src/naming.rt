@@ -1,6 +1,7 @@
 // How a name is made, compared and printed.
 ghost use mathlib.Core.Path.{_≡_};
 ghost use Rattle.std.specs.Results.{Cases};
+ghost use Rattle.std.specs.Text.{lower};
 ghost use Rattle.std.specs.Written.{Prints};
 ghost use Rattle.std.specs.declared.option.Option.the-variants.{Some};
 ghost use Rattle.service.specs.Numbers.{invalid-number};
@@ -13,6 +14,13 @@ use std::fmt;
 
 // The most letters of a name.
 const LONGEST: usize = 8;
+
+// The letter in lower case; a digit stays.
+fn lower_case(byte: u8) -> u8
+    ensures { λ r. ⌜ r ≡ lower byte ⌝ }
+{
+    byte.to_ascii_lowercase()
+}
 
 impl Name {
     // The name of this spelling, which has one to eight ASCII letters or digits.
@@ -32,7 +40,7 @@ impl Name {
                 return Err(Invalid::Name);
             }
             letters = letters * 256 + u64::from(*byte);
-            folded = folded * 256 + u64::from(byte.to_ascii_lowercase());
+            folded = folded * 256 + u64::from(lower_case(*byte));
         }
         Ok(Name { letters, folded })
     }

@@ -24,7 +24,7 @@ returns-then-not-is-ascii-alphanumeric c =
 
 -- there is place for one more byte
 small : (c : Else-not-is-ascii-alphanumeric) → (c .loop-byte .letters < 2 ^ 56) × (c .loop-byte .folded < 2 ^ 56)
-small c = small-so-far (c .args .text .now) (c .loop-byte .byte-index) (c .loop-byte .letters) (c .loop-byte .folded) (c .loop-byte-test .taken) (c .if-text-gt-LONGEST .left) (c .loop-byte .inv)
+small c = small-so-far (c .args .text .now) (c .loop-byte .byte-index) (c .loop-byte .letters) (c .loop-byte .folded) (c .loop-byte-test .taken) (omega arith) (c .loop-byte .inv)
 
 pub mul-letters : need.mul-letters
 mul-letters c = omega (arith, small c)
@@ -36,18 +36,18 @@ pub mul-folded : need.mul-folded
 mul-folded c = omega (arith, small (need.at·mul-folded c .Else-not-is-ascii-alphanumeric))
 
 pub add-folded : need.add-folded
-add-folded c = omega (arith, small (need.at·add-folded c .Else-not-is-ascii-alphanumeric), c .to-ascii-lowercase .ok)
+add-folded c = omega (arith, small (need.at·add-folded c .Else-not-is-ascii-alphanumeric), c .lower-case .ok)
 
 pub loop-byte-again : need.loop-byte-again
 loop-byte-again c =
     packed-more (c .args .text .now) (c .loop-byte .byte-index) (c .loop-byte .letters) (c .loop-byte .folded) (c .from .result) (c .from-in-loop-byte .result) (c .loop-byte-test .taken) (c .loop-byte .inv)
     (sym (c .if-not-is-ascii-alphanumeric .ensures tt .value))
     (c .from .ensures)
-    (c .from-in-loop-byte .ensures ∙ c .to-ascii-lowercase .ensures .value)
+    (c .from-in-loop-byte .ensures ∙ c .lower-case .ensures)
 
 pub returns : need.returns
 returns c =
     let text = c .args .text .now in
     let some : 0 < length text = omega (arith, eqb-false (length text) 0 (sym (c .if-is-empty .ensures tt))) in
-    let m = made-of text (c .loop-byte .byte-index) (c .loop-byte .letters) (c .loop-byte .folded) some (c .if-text-gt-LONGEST .left) (c .loop-byte-test .left) (c .loop-byte .inv) in
+    let m = made-of text (c .loop-byte .byte-index) (c .loop-byte .letters) (c .loop-byte .folded) some (omega arith) (c .loop-byte-test .left) (c .loop-byte .inv) in
     record { answer = m .answer; number = tt; text = m .text-is; same = m .same }

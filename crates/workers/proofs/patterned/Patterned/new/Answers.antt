@@ -1,6 +1,7 @@
 use mathlib.Core.Path.{_≡_, refl, sym, ap, _∙_, subst}
 use mathlib.Core.Bool.{true}
-use Prim.Native.Nat.{ℕ}
+use Prim.Native.Nat.{ℕ, _≤_}
+use native.Mathlib.Omega.{arith}
 use lib.Dec.{leb}
 use lib.ListN.{length}
 use Rattle.std.proofs.shelf.Tests.{le-leb, cond-true}
@@ -15,7 +16,7 @@ pub returns : need.returns
 returns c =
     let xs = c .args .pattern .now in
     let n : ℕ = length xs in
-    let few = c .if-pattern-gt-LONGEST .left in
+    let few : n ≤ 32 = omega arith in
     let is = c .pack .ensures in
     record {
       answer = ap (λ (a : ℕ). Ok (patterned a n 0 0 None)) is ∙ sym (cond-true (leb n 32) _ _ (le-leb n 32 few));
