@@ -21,7 +21,7 @@ module _ {K S F : Type 0} where
   abbrev pub list-feeds : Feeds (ListFeed K S F) K S F
   list-feeds = record {
     discovered = λ feed now.
-      outcome
-      (in-list (feed .answers .now) (feed .next))
-      (record { answers = feed .answers; next = cond (ltb (feed .next) (length (feed .answers .now))) (feed .next + 1) (feed .next) });
+        outcome
+        (in-list (feed .answers .now) (feed .next))
+        (record { answers = feed .answers; next = cond (ltb (feed .next) (length (feed .answers .now))) (feed .next + 1) (feed .next) });
   }

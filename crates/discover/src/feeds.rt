@@ -3,17 +3,23 @@ ghost use mathlib.Core.Path.{_≡_};
 ghost use Prim.Native.Nat.{ℕ};
 ghost use Rattle.discover.specs.Feeds.{nth-discovered, discovered-number};
 ghost use Rattle.discover.specs.ListFeeds.{list-feeds, in-list};
-
 use crate::Discover;
 use crate::discovered::Discovered;
 use crate::list_feed::ListFeed;
 use service::Key;
 
 // The answer at a place of the list, and End past it.
-fn answer_at<K: Copy, S: Copy, F: Copy>(answers: &[Discovered<K, S, F>], place: usize) -> Discovered<K, S, F>
+fn answer_at<K: Copy, S: Copy, F: Copy>(
+    answers: &[Discovered<K, S, F>],
+    place: usize,
+) -> Discovered<K, S, F>
     ensures { λ r. ⌜ r ≡ in-list (now (answers .entry)) place ⌝ }
 {
-    if place < answers.len() { answers[place] } else { Discovered::End }
+    if place < answers.len() {
+        answers[place]
+    } else {
+        Discovered::End
+    }
 }
 
 impl<'a, K: Key, S: Copy, F: Copy> ListFeed<'a, K, S, F> {
@@ -35,7 +41,9 @@ impl<'a, K: Key, S: Copy, F: Copy> ListFeed<'a, K, S, F> {
 
 pub impl<K: Key, S: Copy, F: Copy> Discover for ListFeed<'_, K, S, F> as ListFeedDiscover {
     type Key = K;
+
     type Service = S;
+
     type Error = F;
 
     ghost feeds = { list-feeds };

@@ -93,7 +93,7 @@ same-without-case text h other m e =
     let b : ℕ = packed (without-case other) in
     let tests : Decides (eqb a b) (without-case text ≡ without-case other) = (
       λ t. packed-same (without-case text) (without-case other) (lower-bytes text h) (lower-bytes other (made .0)) (eqb-true a b t),
-      λ t. eq-eqb a b (ap packed t)
+      λ t. eq-eqb a b (ap packed t),
     ) in
     subst (λ (n : Name). Decides (names .same (name-of text) n) (without-case text ≡ without-case other)) (sym (made .1)) tests
 

@@ -6,7 +6,6 @@ ghost use Rattle.std.specs.Written.{Prints};
 ghost use Rattle.std.specs.declared.option.Option.the-variants.{Some};
 ghost use Rattle.service.specs.Numbers.{invalid-number};
 ghost use Rattle.keys.specs.Names.{names, new-name, text-of, shown, Same-without-case};
-
 use crate::name::Name;
 use service::Key;
 use service::refusal::Invalid;

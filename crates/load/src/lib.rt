@@ -28,8 +28,11 @@ impl<S: Service> PendingRequests<S> {
 // The weight is the number of requests out.
 pub impl<S: Service> Endpoint for PendingRequests<S> as PendingRequestsEndpoint {
     type Request = S::Request;
+
     type Response = S::Response;
+
     type Error = S::Error;
+
     type Metric = u32;
 
     ghost means = { over (S·Service .serves) };

@@ -31,5 +31,5 @@ module _ {S Q A E : Type 0} (serves : Services S Q A E) where
   responses-in s (ask at ∷ us) = responses-in (serves .polled s at .after) us
   responses-in s (send q at ∷ us) =
       by-some (serves .grant s)
-        (responses-in s us)
-        (λ _. serves .accepted s q at .answer ∷ responses-in (serves .accepted s q at .after) us)
+      (responses-in s us)
+      (λ _. serves .accepted s q at .answer ∷ responses-in (serves .accepted s q at .after) us)

@@ -1,6 +1,5 @@
 // Plain numbers as keys and as weights.
 ghost use Rattle.service.specs.Kinds.{same-number, by-number};
-
 use crate::Key;
 use crate::Weight;
 

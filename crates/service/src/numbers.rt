@@ -1,7 +1,6 @@
 // The number of a refusal or a fault, as programs print it.
 ghost use mathlib.Core.Path.{_≡_};
 ghost use Rattle.service.specs.Numbers.{service-number, endpoint-number, invalid-number, readiness-number};
-
 use crate::readiness::Readiness;
 use crate::refusal::EndpointRefusal;
 use crate::refusal::Invalid;

@@ -2,7 +2,6 @@
 ghost use mathlib.Core.Path.{_≡_};
 ghost use Rattle.std.specs.declared.option.Option.the-variants.{None};
 ghost use Rattle.workers.specs.Paces.{paced-serves, new-paced};
-
 use crate::paced::Paced;
 use service::Service;
 use service::readiness::Readiness;
@@ -15,14 +14,19 @@ impl Paced {
         ensures made { λ r. ⌜ r ≡ new-paced ⌝ }
         ensures grant { λ r. ⌜ paced-serves .grant r ≡ None ⌝ }
     {
-        Paced { free: 0, grant: None }
+        Paced {
+            free: 0,
+            grant: None,
+        }
     }
 }
 
 // A request is a number of nanoseconds, and the response the instant from which it is free again.
 pub impl Service for Paced as PacedService {
     type Request = u64;
+
     type Response = u64;
+
     type Error = Infallible;
 
     ghost serves = { paced-serves };

@@ -7,7 +7,6 @@ ghost use Rattle.std.specs.declared.option.Option.the-variants.{None};
 ghost use Rattle.service.specs.Numbers.{invalid-number};
 ghost use Rattle.workers.specs.Patterns.{code, packed, patterned-serves, new-patterned};
 ghost use Rattle.workers.specs.Turns.{Answers-in-turn, Counts-calls};
-
 use crate::answer::Answer;
 use crate::patterned::Patterned;
 use service::Service;
@@ -67,7 +66,9 @@ impl Patterned {
 // A request is any number, the response how many calls were taken, and the error the place of the answer.
 pub impl Service for Patterned as PatternedService {
     type Request = u32;
+
     type Response = u64;
+
     type Error = u8;
 
     ghost serves = { patterned-serves };
