@@ -162,7 +162,7 @@ shown-more n h =
     let e : encodes (n % 256 ∷ []) ≡ encode (n % 256) = append-nil (encode (n % 256)) in
     sym (ap encodes (digitsOf-step 256 n (omega arith) h) ∙ encodes-append (digitsOf 256 (n / 256)) (n % 256 ∷ []) ∙ ap (λ (l : List ℕ). shown (n / 256) ++ l) e)
 
-pub shown-then : {W : Type 0} (took : W → List ℕ → W → Type 0) (f g h : Formatter W) (r s : Result (Unit {0}) Error) (n b : ℕ) → 0 < n → isOk r ≡ true → b ≡ n % 256 → Prints took f r (shown (n / 256)) g → Prints took g s (encode b) h → Prints took f s (shown n) h
+pub shown-then : {W : Type 0} (took : W → List ℕ → W → Type 0) (f g h : Formatter W) (r s : Result (Unit {0}) Error) (n b : ℕ) → 0 < n → r ≡ Ok tt → b ≡ n % 256 → Prints took f r (shown (n / 256)) g → Prints took g s (encode b) h → Prints took f s (shown n) h
 shown-then took f g h r s n b some ok e p q =
     let last = subst (λ (c : ℕ). Prints took g s (encode c) h) e q in
-    subst (λ (bs : List ℕ). Prints took f s bs h) (shown-more n some) (prints-then took f g h r s (shown (n / 256)) (encode (n % 256)) (λ _. ok) p last)
+    subst (λ (bs : List ℕ). Prints took f s bs h) (shown-more n some) (prints-then took f g h r s (shown (n / 256)) (encode (n % 256)) (λ _. ap isOk ok) p last)
