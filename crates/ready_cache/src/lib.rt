@@ -117,8 +117,8 @@ impl<'a, K: Copy, S: Copy> ReadyCache<'a, K, S> {
     pub fn iter_ready(&self) -> Iter<'_, Entry<K, S>>
         ensures { λ r. ⌜ iter-rest r ≡ view (now (self .entry)) .ready ⌝ }
     {
-        let l = self.lengths();
-        self.ready[0..l.ready].iter()
+        let end = self.lengths().ready;
+        self.ready[0..end].iter()
     }
 }
 
