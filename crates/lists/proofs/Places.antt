@@ -89,10 +89,10 @@ module _ {A : Type 0} where
   swap-remove-set (x ∷ xs) zero v = refl
   swap-remove-set (x ∷ xs) (suc i) v = ap (λ ys. x ∷ ys) (swap-remove-set xs i v)
 
-  pub swap-remove-past : (xs : List A) (i : ℕ) → length xs ≤ i → swap-remove xs i ≡ xs
-  swap-remove-past [] i h = refl
-  swap-remove-past (x ∷ xs) zero h = absurd (omega arith)
-  swap-remove-past (x ∷ xs) (suc i) h = ap (λ ys. x ∷ ys) (swap-remove-past xs i (omega arith))
+  pub swap-remove-none : (xs : List A) (i : ℕ) → at xs i ≡ None → swap-remove xs i ≡ xs
+  swap-remove-none [] i h = refl
+  swap-remove-none (x ∷ xs) zero h = let z : _≡_ {A = ℕ} 0 1 = cc in absurd (omega arith)
+  swap-remove-none (x ∷ xs) (suc i) h = ap (λ ys. x ∷ ys) (swap-remove-none xs i h)
 
   -- ---- finding
 

@@ -15,15 +15,17 @@ use service::Key;
 
 impl<'a, K: Copy, S: Copy> ReadyCache<'a, K, S> {
     // Takes the ready entry at a place away: the last one moves into the gap.
-    pub(crate) fn remove(&mut self, i: usize) -> Option<Entry<K, S>>
-        ensures answer { λ r. ⌜ r ≡ item-at (view (now (self .entry)) .ready) i ⌝ }
-        ensures after { λ _. ⌜ view (now (self .exit)) ≡ with-lists (view (now (self .entry))) (swap-remove (view (now (self .entry)) .ready) i) (view (now (self .entry)) .pending) ⌝ }
+    pub(crate) fn remove(&mut self, i: usize)
+        ensures { λ _. ⌜ view (now (self .exit)) ≡ with-lists (view (now (self .entry))) (swap-remove (view (now (self .entry)) .ready) i) (view (now (self .entry)) .pending) ⌝ }
     {
         let l = self.lengths();
-        let removed = lists::swap_remove(self.ready, l.ready, i);
-        self.ready_count = if removed.is_some() { l.ready - 1 } else { l.ready };
-        self.pending_count = l.pending;
-        removed
+        match lists::swap_remove(self.ready, l.ready, i) {
+            Some(_) => {
+                self.ready_count = l.ready - 1;
+                self.pending_count = l.pending;
+            }
+            None => {}
+        }
     }
 }
 
@@ -69,9 +71,14 @@ impl<'a, K: Key, S: Copy> ReadyCache<'a, K, S> {
     pub(crate) fn demote(&mut self, i: usize)
         ensures { λ _. ⌜ view (now (self .exit)) ≡ by-some (item-at (view (now (self .entry)) .ready) i) (view (now (self .entry))) (λ e. with-lists (view (now (self .entry))) (swap-remove (view (now (self .entry)) .ready) i) (set-aside sameness e (view (now (self .entry)) .pending))) ⌝ }
     {
-        if let Some(entry) = self.remove(i) {
-            let end = self.pending_count;
-            self.pending_count = entries::set_aside(self.pending, end, entry);
+        let l = self.lengths();
+        match lists::swap_remove(self.ready, l.ready, i) {
+            Some(entry) => {
+                let end = entries::set_aside(self.pending, l.pending, entry);
+                self.ready_count = l.ready - 1;
+                self.pending_count = end;
+            }
+            None => {}
         }
     }
 }

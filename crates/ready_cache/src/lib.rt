@@ -15,6 +15,7 @@ pub mod cache;
 mod change;
 mod entries;
 mod pass;
+mod places;
 mod serve;
 mod wanted;
 

@@ -18,8 +18,10 @@ impl<'a, K: Key, S: Endpoint> ReadyCache<'a, K, S> {
     {
         let l = self.lengths();
         match entries::ask(self.ready, l.ready, i, at) {
-            Ok(true) => Ok(true),
-            Ok(false) => {
+            Ok(ready) => {
+                if ready {
+                    return Ok(true);
+                }
                 self.demote(i);
                 Ok(false)
             }
