@@ -2,3 +2,4 @@ pub mod Lists
 pub mod Views
 pub mod Calls
 pub mod Steps
+pub mod Passes

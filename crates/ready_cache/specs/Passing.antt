@@ -17,7 +17,6 @@ use Rattle.cache_model.specs.declared.error.PendingError.the-variants as error
 use Rattle.cache_model.specs.Answers.{by-readiness}
 use Rattle.cache_model.specs.Entries.{holding, promote}
 use Rattle.cache_model.specs.Cache.{Passed, pass, has-place}
-use Rattle.ready_cache.specs.declared.cache.ReadyCache.{ReadyCache}
 use Rattle.ready_cache.specs.declared.places.Places.{Places}
 
 -- the entry that was read is passed over, or stays and is moved to the front
@@ -75,17 +74,16 @@ module _ {K S Q A E W : Type 0} (keys : Sameness K) (ends : Endpoints S Q A E W)
   abbrev pub left-of : List (Entry K S) → List (Entry K S) → Places → Ended K S E
   left-of xs ys p = ended (pass keys ends now capacity (take (p .ready) xs) (take (p .write) ys) (drop (p .read) (take end ys)))
 
-  -- a pass went on from the places p to q, in the memory of c that is now that of d
-  pub record Went (c d : ReadyCache K S) (p q : Places) : Type 0 where
+  -- a pass went on from the places p to q, in memory xs and ys that is now xs′ and ys′
+  pub record Went (xs ys xs′ ys′ : List (Entry K S)) (p q : Places) : Type 0 where
     pub behind : q .write ≤ q .read
     pub within : q .read ≤ end
     pub fits : q .ready ≤ capacity
     pub roomy : q .ready + q .write + (end - q .read) ≤ p .ready + p .write + (end - p .read)
-    pub ready-long : length (d .ready .now) ≡ length (c .ready .now)
-    pub pending-long : length (d .pending .now) ≡ length (c .pending .now)
-    pub next : d .«next_serial» ≡ c .«next_serial»
+    pub ready-long : length xs′ ≡ length xs
+    pub pending-long : length ys′ ≡ length ys
 
   -- it ended there, with this result
-  pub record Ends (c d : ReadyCache K S) (p q : Places) (r : Result (Unit {0}) (PendingError K E)) : Type 0 where
-    pub went : Went c d p q
-    pub same : left-of (c .ready .now) (c .pending .now) p ≡ record { ready = take (q .ready) (d .ready .now); kept = take (q .write) (d .pending .now); rest = drop (q .read) (take end (d .pending .now)); fault = fault-of r }
+  pub record Ends (xs ys xs′ ys′ : List (Entry K S)) (p q : Places) (r : Result (Unit {0}) (PendingError K E)) : Type 0 where
+    pub went : Went xs ys xs′ ys′ p q
+    pub same : left-of xs ys p ≡ record { ready = take (q .ready) xs′; kept = take (q .write) ys′; rest = drop (q .read) (take end ys′); fault = fault-of r }

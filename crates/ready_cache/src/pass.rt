@@ -86,7 +86,8 @@ impl<'a, K: Key, S: Endpoint> ReadyCache<'a, K, S> {
     // Goes from entry to entry, up to the end or a fault.
     fn pass(&mut self, places: &mut Places, capacity: usize, end: usize, at: u64) -> Result<(), PendingError<K, S::Error>>
         requires { ⌜ now places .write ≤ now places .read ⌝ ∗ ⌜ now places .read ≤ end ⌝ ∗ ⌜ end ≤ length (now self .pending .now) ⌝ ∗ ⌜ now places .ready ≤ capacity ⌝ ∗ ⌜ capacity ≤ length (now self .ready .now) ⌝ }
-        ensures { λ r. ⌜ Ends sameness means at capacity end (now (self .entry)) (now (self .exit)) (now (places .entry)) (now (places .exit)) r ⌝ }
+        ensures ends { λ r. ⌜ Ends sameness means at capacity end (now (self .entry) .ready .now) (now (self .entry) .pending .now) (now (self .exit) .ready .now) (now (self .exit) .pending .now) (now (places .entry)) (now (places .exit)) r ⌝ }
+        ensures next { λ _. ⌜ now (self .exit) .«next_serial» ≡ now (self .entry) .«next_serial» ⌝ }
     {
         while places.read < end {
             if let Some(entry) = turn(self.pending, places, at)? {
