@@ -1,5 +1,5 @@
 -- The steps of a pass that moves what stays to the front of the same list.
-use mathlib.Core.Path.{_≡_, refl, sym, ap, _∙_}
+use mathlib.Core.Path.{_≡_, refl, sym, ap, _∙_, subst}
 use mathlib.Core.Bool.{Bool, true, false, cond}
 use mathlib.Core.List.{List, [], _∷_, _++_}
 use Prim.Native.Nat.{ℕ, zero, suc, _+_, _-_, _≤_, _<_, min}
@@ -68,6 +68,9 @@ module _ {K S Q A E W : Type 0} (ends : Endpoints S Q A E W) (now : ℕ) (xs : L
         memory = ey ∙ ap (λ z. leaves a (holding e z)) es ∙ ap (λ z. leaves z (holding e (ends .polled (e .endpoint) now .after))) ea ∙ sym (cond-false (e .cancelled) _ _ live);
         places = eq ∙ ap moves ea ∙ sym (cond-false (e .cancelled) _ _ live);
       }
+
+pub turned-as : {K S Q A E W : Type 0} (ends : Endpoints S Q A E W) (now : ℕ) (xs ys : List (Entry K S)) (p q : Places) (o o′ : Option (Entry K S)) → o ≡ o′ → Turned ends now xs p (Ok o) ys q → Turned ends now xs p (Ok o′) ys q
+turned-as ends now xs ys p q o o′ h d = subst (λ z. Turned ends now xs p (Ok z) ys q) h d
 
 -- where a turn leaves the places
 abbrev pub Placed : {K S E : Type 0} → Places → Places → Result (Option (Entry K S)) (Failure K E) → Type 0
@@ -156,6 +159,9 @@ module _ {K S Q A E W : Type 0} (keys : Sameness K) (ends : Endpoints S Q A E W)
 
   -- ---- the pass
 
+  pub ends-as : (xs ys xs′ ys′ : List (Entry K S)) (p q : Places) (r r′ : Result (Unit {0}) (PendingError K E)) → r ≡ r′ → Ends keys ends now capacity end xs ys xs′ ys′ p q r → Ends keys ends now capacity end xs ys xs′ ys′ p q r′
+  ends-as xs ys xs′ ys′ p q r r′ h d = subst (λ z. Ends keys ends now capacity end xs ys xs′ ys′ p q z) h d
+
   module _ (xs ys xs′ ys′ : List (Entry K S)) (p₀ p : Places) (now-at : Went keys ends now capacity end xs ys xs′ ys′ p₀ p) (same : left-of keys ends now capacity end xs′ ys′ p ≡ left-of keys ends now capacity end xs ys p₀) (long : end ≤ length ys) where
     -- it came to the end
     pub at-end : end ≤ p .read → Ends keys ends now capacity end xs ys xs′ ys′ p₀ p (Ok tt)
@@ -164,6 +170,7 @@ module _ {K S Q A E W : Type 0} (keys : Sameness K) (ends : Endpoints S Q A E W)
         let none : drop (p .read) (take end ys′) ≡ [] = drop-all (p .read) (take end ys′) (omega arith) in
         record {
           went = now-at;
+          done = λ _. done;
           same =
             sym same
             ∙ ap (λ z. ended (pass keys ends now capacity (take (p .ready) xs′) (take (p .write) ys′) z)) none
@@ -205,6 +212,7 @@ module _ {K S Q A E W : Type 0} (keys : Sameness K) (ends : Endpoints S Q A E W)
               ready-long = now-at .ready-long;
               pending-long = as-long ∙ now-at .pending-long;
             };
+            done = λ h. let z : _≡_ {A = ℕ} 0 1 = cc in absurd (omega arith);
             same = sym (goes (Err f) d);
           }
 
@@ -246,6 +254,7 @@ module _ {K S Q A E W : Type 0} (keys : Sameness K) (ends : Endpoints S Q A E W)
                 ready-long = as-wide ∙ now-at .ready-long;
                 pending-long = as-long ∙ now-at .pending-long;
               };
+              done = λ h. let z : _≡_ {A = ℕ} 0 1 = cc in absurd (omega arith);
               same =
                 sym (goes (Ok (Some e)) d)
                 ∙ cond-false (has-place keys capacity (take (q .ready) xs′) (e .key)) _ _ (t .place)

@@ -86,4 +86,5 @@ module _ {K S Q A E W : Type 0} (keys : Sameness K) (ends : Endpoints S Q A E W)
   -- it ended there, with this result
   pub record Ends (xs ys xs′ ys′ : List (Entry K S)) (p q : Places) (r : Result (Unit {0}) (PendingError K E)) : Type 0 where
     pub went : Went xs ys xs′ ys′ p q
+    pub done : fault-of r ≡ None → end ≤ q .read
     pub same : left-of xs ys p ≡ record { ready = take (q .ready) xs′; kept = take (q .write) ys′; rest = drop (q .read) (take end ys′); fault = fault-of r }

@@ -112,8 +112,9 @@ impl<'a, K: Key, S: Endpoint> ReadyCache<'a, K, S> {
         let left = close(self.pending, places.write, places.read, end);
         self.ready_count = places.ready;
         self.pending_count = left;
-        self.resume = if passed.is_ok() { 0 } else { places.write };
+        self.resume = places.write;
         passed?;
-        Ok(if left == 0 { Poll::Ready(()) } else { Poll::Pending })
+        self.resume = 0;
+        if left == 0 { Ok(Poll::Ready(())) } else { Ok(Poll::Pending) }
     }
 }
