@@ -1,3 +1,4 @@
-// The ready cache as lists and numbers: its entries and answers, and in specs/ what each call does. No code.
+// The ready cache as lists and numbers: its entries, its answers and how faults rise; specs/ has what each call does.
+pub mod convert;
 pub mod entry;
 pub mod error;

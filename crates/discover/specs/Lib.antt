@@ -1,1 +1,2 @@
 pub mod Feeds
+pub mod ListFeeds

@@ -3,6 +3,8 @@ ghost use mathlib.Core.Path.{_≡_};
 ghost use Rattle.discover.specs.Feeds.{Feeds};
 
 pub mod discovered;
+pub mod feeds;
+pub mod list_feed;
 
 use discovered::Discovered;
 use service::Key;

@@ -6,7 +6,7 @@ use Prim.Native.Nat.{ℕ, zero, suc, _+_, _-_, _≤_, _<_, min}
 use native.Mathlib.Omega.{arith}
 use lib.ListN.{length, take, set, getD}
 use Rattle.std.specs.Options.{Cases, isSome}
-use Rattle.std.proofs.shelf.Lists.{length-take, getD-take, take-take}
+use Rattle.std.proofs.shelf.Lists.{length-take, getD-take, getD-default, take-take}
 use Rattle.std.proofs.shelf.Results.{cases-at-some, cases-at-none}
 use Rattle.std.specs.declared.option.Option.{Option}
 use Rattle.std.specs.declared.option.Option.the-variants.{Some, None}
@@ -20,6 +20,10 @@ module _ {A : Type 0} where
   at-front [] (suc n) i x h l e = absurd (omega arith)
   at-front (y ∷ ys) (suc n) zero x h l e = ap Some (sym e)
   at-front (y ∷ ys) (suc n) (suc i) x h l e = at-front ys n i x (omega arith) (omega arith) e
+
+  -- the same of an item that was not copied out
+  pub at-get : (xs : List A) (n i : ℕ) (d : A) → i < n → i < length xs → at (take n xs) i ≡ Some (getD xs i d)
+  at-get xs n i d h l = at-front xs n i (getD xs i d) h l (getD-default xs i d (getD xs i d) l)
 
   pub at-past : (xs : List A) (i : ℕ) → length xs ≤ i → at xs i ≡ None
   at-past [] i h = refl
@@ -85,10 +89,10 @@ module _ {A : Type 0} where
   swap-remove-set (x ∷ xs) zero v = refl
   swap-remove-set (x ∷ xs) (suc i) v = ap (λ ys. x ∷ ys) (swap-remove-set xs i v)
 
-  pub swap-remove-past : (xs : List A) (i : ℕ) → length xs ≤ i → swap-remove xs i ≡ xs
-  swap-remove-past [] i h = refl
-  swap-remove-past (x ∷ xs) zero h = absurd (omega arith)
-  swap-remove-past (x ∷ xs) (suc i) h = ap (λ ys. x ∷ ys) (swap-remove-past xs i (omega arith))
+  pub swap-remove-none : (xs : List A) (i : ℕ) → at xs i ≡ None → swap-remove xs i ≡ xs
+  swap-remove-none [] i h = refl
+  swap-remove-none (x ∷ xs) zero h = let z : _≡_ {A = ℕ} 0 1 = cc in absurd (omega arith)
+  swap-remove-none (x ∷ xs) (suc i) h = ap (λ ys. x ∷ ys) (swap-remove-none xs i h)
 
   -- ---- finding
 

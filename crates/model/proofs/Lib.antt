@@ -2,3 +2,5 @@ pub mod Cases
 pub mod Totals
 pub mod Places
 pub mod Sums
+pub mod Orders
+pub mod Lists

@@ -1,2 +1,4 @@
 pub mod Numbers
 pub mod Meaning
+pub mod Kinds
+pub mod Uses

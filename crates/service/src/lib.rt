@@ -1,7 +1,10 @@
 // Keys, weights, bare services and endpoints: the interfaces, each with what an implementation means (tower: tower-service, load).
 ghost use mathlib.Core.Path.{_≡_};
+ghost use Rattle.std.specs.Options.{isSome};
 ghost use Rattle.service.specs.Meaning.{Sameness, Weights, Services, Endpoints, service-called, endpoint-called};
 
+pub mod kinds;
+pub mod numbers;
 pub mod poll;
 pub mod readiness;
 pub mod refusal;
@@ -35,6 +38,10 @@ pub trait Service: Copy {
     type Error: Copy;
 
     ghost serves: { Services Self (Self·Request) (Self·Response) (Self·Error) };
+
+    // Whether it said that it is ready, and was not asked or called since.
+    fn is_granted(&self) -> bool
+        ensures { λ r. ⌜ r ≡ isSome (serves .grant (now (self .entry))) ⌝ };
 
     fn poll_ready(&mut self, at: u64) -> Readiness<Self::Error>
         ensures answer { λ r. ⌜ r ≡ serves .polled (now (self .entry)) at .answer ⌝ }

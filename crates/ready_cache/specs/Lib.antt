@@ -1,0 +1,3 @@
+pub mod View
+pub mod Asking
+pub mod Passing

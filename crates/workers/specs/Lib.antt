@@ -1,0 +1,3 @@
+pub mod Paces
+pub mod Patterns
+pub mod Turns

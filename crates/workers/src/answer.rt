@@ -1,0 +1,7 @@
+// An answer of a pattern.
+#[derive(Clone, Copy)]
+pub enum Answer {
+    Ready,
+    Pending,
+    Failed,
+}
