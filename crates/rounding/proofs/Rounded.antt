@@ -8,8 +8,8 @@ use native.Mathlib.Omega.{arith}
 use lib.Dec.{T, lit≤, ltb, leb, leb→le, le→leb, ltb→lt}
 use lib.IntN.{ℤ, pos, negsuc}
 use lib.Pow.{pow-mono, pow-add, pow-pos}
-use lib.Ieee.{Float, nan, inf, fin, Format, binary32, binary64, up, down, round, sum, neg, add, sub, mul, le, lt, fits}
-use lib.Ieee.Fits.{down-pos}
+use lib.Ieee.{Float, nan, inf, fin, Format, binary32, binary64, up, down, odd, units, round, sum, neg, add, sub, mul, le, lt, fits}
+use lib.Ieee.Fits.{down-pos, round-is}
 use lib.Ieee.Order.{round-mono}
 use lib.Ieee.Scale.{round-same}
 use lib.Ieee.Positive.{num, den, den-pos, through}
@@ -150,6 +150,40 @@ unfolding fits
 rest-share x p =
     let u = under (den x - num x) (den x) one (den-pos x) tt tt (omega arith) in
     subst (λ (z : Float). T (share z)) (sym (rest-is x p)) (share-of (round binary64 false (den x - num x) (den x)) (u .1) (u .0))
+
+pub share-times : (x y : Float) → T (share x) → T (share y) → T (share (x ⊗ y))
+unfolding fits
+share-times x y p q =
+    let u = under (num x * num y) (den x * den y) one (mul-pos (den-pos x) (den-pos y)) tt tt (le-trans (le-of-eq (mul-one (num x * num y))) (le-trans (mul-le-mul (share-cross x p) (share-cross y q)) (le-of-eq (sym (one-mul (den x * den y)))))) in
+    subst (λ (z : Float). T (share z)) (sym (mul-is x y (share-up x p) (share-up y q))) (share-of (round binary64 false (num x * num y) (den x * den y)) (u .1) (u .0))
+
+neg-odd : (d q k l : ℕ) → neg (odd d false q k l) ≡ odd d true q k l
+unfolding neg odd
+neg-odd d ℕ.zero k l = refl
+neg-odd d (suc q) k l = refl
+
+neg-units : (q k : ℕ) → neg (units binary64 false q k) ≡ units binary64 true q k
+unfolding units neg
+neg-units q k = go (ltb (q * 2 ^ k) (2 ^ 2098))
+  where
+    go : (b : Bool) → neg (cond b (odd 54 false q k 1074) (inf false)) ≡ cond b (odd 54 true q k 1074) (inf true)
+    go true = neg-odd 54 q k 1074
+    go false = refl
+
+neg-round : (a c : ℕ) → neg (round binary64 false a c) ≡ round binary64 true a c
+neg-round a c = ap neg (round-is binary64 false a c) ∙ neg-units _ _ ∙ sym (round-is binary64 true a c)
+
+less-is : (x y : Float) → x ⊖ y ≡ x ⊕ neg y
+unfolding sub
+less-is x y = refl
+
+-- 1 and a rounded fraction from -1 to 0
+pub one-and-less : (a c : ℕ) → 0 < c → a ≤ c → T (share (one ⊕ round binary64 true a c))
+unfolding fits
+one-and-less a c C h =
+    let u = under a c one C tt tt (omega arith) in
+    subst (λ (z : Float). T (share z)) (less-is one (round binary64 false a c) ∙ ap (λ (y : Float). one ⊕ y) (neg-round a c))
+    (rest-share (round binary64 false a c) (share-of (round binary64 false a c) (u .1) (u .0)))
 
 -- ---- no overflow
 

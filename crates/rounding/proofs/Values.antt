@@ -1,17 +1,18 @@
 -- Finite numbers from 0 up as fractions: what has one value is one number, and the order is that of the fractions.
 use mathlib.Core.Path.{_≡_, refl, sym, ap, _∙_, subst}
-use mathlib.Core.Bool.{Bool, true, false, cond, _||_, _&&_}
+use mathlib.Core.Bool.{Bool, true, false, not, cond, _||_, _&&_}
 use mathlib.Core.Logic.{_⊎_, inl, inr}
 use Prim.Native.Nat.{ℕ, zero, suc, _+_, _-_, _*_, _/_, _%_, _^_, _≤_, _<_, compare}
-use native.Mathlib.Nat.{zero-mul, mul-le-mul-right, lt-of-lt-of-le, mul-one, one-mul, mul-pos, mul-comm, mul-assoc, mul-right-comm, le-of-eq, le-of-lt, lt-of-le-of-lt, lt-of-mul-lt-mul-right, mul-lt-mul-of-pos-right, add-sub-of-le, zero-lt-suc, le-trans}
+use native.Mathlib.Nat.{mod-le, zero-mul, mul-le-mul-right, lt-of-lt-of-le, mul-one, one-mul, mul-pos, mul-comm, mul-assoc, mul-right-comm, le-of-eq, le-of-lt, lt-of-le-of-lt, lt-of-mul-lt-mul-right, mul-lt-mul-of-pos-right, add-sub-of-le, zero-lt-suc, le-trans}
 use native.Mathlib.Omega.{arith}
 use lib.Dec.{T, ltb, leb, eqb, leb→le, ltb→lt, eqb→eq}
+use lib.Arith.{le→nltb}
 use lib.IntN.{ℤ, pos, negsuc}
 use lib.Pow.{pow-add, pow-pos, pow-lt}
 use Rattle.std.proofs.shelf.Tests.{cases-lt}
-use lib.Ieee.{Float, nan, inf, fin, Format, prec, emax, low, up, down, size, nearest, round, odd, units, fits, ofBits, toBits, top, hid, le}
+use lib.Ieee.{Float, nan, inf, fin, Format, prec, emax, low, up, down, size, nearest, round, odd, units, fits, ofBits, toBits, nanBits, top, hid, ones, le}
 use lib.Ieee.Fits.{up-pos, down-pos, round-fits, round-is, and-l, and-r}
-use lib.Ieee.Bits.{ofBits-toBits}
+use lib.Ieee.Bits.{ofBits-toBits, nanBits-above}
 use lib.Ieee.Exact.{HasValue, round-exact}
 use lib.Ieee.Nearest.{div-same}
 use lib.Ieee.Order.{le-of-values}
@@ -158,3 +159,8 @@ bounded-round f a c y p h = go (round-up f a c)
     go : T (from-zero (round f false a c)) ⊎ (round f false a c ≡ inf false) → T (from-zero (round f false a c))
     go (inl t) = t
     go (inr e) = absurd (not-under y p (subst (λ (x : Float). T (le x y)) e h))
+
+-- ---- bits up to those of the upper infinity are a number's
+
+pub number-bits : (f : Format) (n : ℕ) → n ≤ ones f * hid f → T (not (nanBits f n))
+number-bits f n h = subst (λ (b : Bool). T (not b)) (sym (nanBits-above f n)) (le→nltb (ones f * hid f) (n % top f) (le-trans (mod-le n (top f)) h))
