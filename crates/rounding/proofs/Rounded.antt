@@ -62,7 +62,7 @@ unfolding round
 round-none c C = round-same binary64 false 0 c 0 1 C (le-of-eq refl) (zero-mul 1 ∙ sym (zero-mul c)) ∙ refl
 
 -- a fraction up to a number that fits rounds to a number up to it
-under : (a c : ℕ) (x : Float) → 0 < c → T (from-zero x) → T (fits binary64 x) → a * den x ≤ num x * c → T (le (round binary64 false a c) x) × T (from-zero (round binary64 false a c))
+pub under : (a c : ℕ) (x : Float) → 0 < c → T (from-zero x) → T (fits binary64 x) → a * den x ≤ num x * c → T (le (round binary64 false a c) x) × T (from-zero (round binary64 false a c))
 under a c nan C p q h = absurd p
 under a c (inf s) C p q h = absurd p
 under a c (fin true m e) C p q h = absurd p
