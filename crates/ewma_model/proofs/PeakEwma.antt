@@ -1,12 +1,14 @@
 -- Estimates stay finite and not below zero, a reading never raises one, and a second reading at one instant changes nothing.
 use mathlib.Core.Path.{_≡_, refl, sym, ap, _∙_, subst}
 use mathlib.Core.Bool.{Bool, true, false, cond}
-use Prim.Native.Nat.{ℕ, suc, _+_, _-_, _*_, _%_, _^_, _≤_, _<_}
+use mathlib.Core.Logic.{_⊎_, inl, inr}
+use Prim.Native.Nat.{ℕ, suc, _+_, _-_, _*_, _/_, _%_, _^_, _≤_, _<_}
 use native.Mathlib.Nat.{zero-lt-suc, sub-self, mul-one, one-mul, mul-comm, mul-pos, zero-mul, mul-assoc, mul-le-mul-right, le-of-eq, le-trans, add-le-add, add-mul}
 use native.Mathlib.Omega.{arith}
-use lib.Dec.{T, eqb, eqb·suc-zero, lit<, lit≤}
+use lib.Dec.{T, leb, eqb, eqb·suc-zero, lit<, lit≤}
 use lib.IntN.{ℤ, pos}
-use lib.Ieee.{Float, nan, inf, fin, binary64, up, down, round, add, neg, div, lt, le, fits, ofInt, ofBits, toBits}
+use Rattle.std.proofs.shelf.Tests.{cases-lt, lt-leb, le-leb, ne-eqb}
+use lib.Ieee.{Float, nan, inf, fin, binary64, up, down, round, add, neg, div, lt, le, fits, ofInt, odd, ofFields, ofBits, toBits}
 use lib.Ieee.Fits.{up-pos, mul-fits, add-fits}
 use lib.Ieee.Bits.{ofBits-fits, ofBits-toBits}
 use lib.Ieee.Scale.{round-same}
@@ -41,6 +43,56 @@ cut-same (fin false m e) p = refl
 -- an estimate that was written is read as it was
 pub cut-written : (x : Float) → T (from-zero x) → T (fits binary64 x) → cut (ofBits binary64 (toBits binary64 x)) ≡ x
 cut-written x p q = ap cut (ofBits-toBits binary64 x q) ∙ cut-same x p
+
+-- ---- which bits are a finite number from 0 up: those below the upper infinity's
+
+number : (d q k l : ℕ) → T (from-zero (odd d false q k l))
+unfolding odd
+number d ℕ.zero k l = tt
+number d (suc q) k l = tt
+
+cut-negative : (d q k l : ℕ) → cut (odd d true q k l) ≡ zero
+unfolding odd
+cut-negative d ℕ.zero k l = refl
+cut-negative d (suc q) k l = refl
+
+cut-special : (b s : Bool) → cut (cond b (inf s) nan) ≡ zero
+cut-special true s = refl
+cut-special false s = refl
+
+fields-number : (x t : ℕ) → x < 2047 → T (from-zero (ofFields binary64 false x t))
+unfolding ofFields
+fields-number ℕ.zero t h = number 53 t 0 1074
+fields-number (suc x) t h = subst (λ (b : Bool). T (from-zero (cond b (cond (eqb t 0) (inf false) nan) (odd 53 false (2 ^ 52 + t) x 1074)))) (sym (ne-eqb (suc x) 2047 (omega arith))) (number 53 (2 ^ 52 + t) x 1074)
+
+fields-negative : (x t : ℕ) → cut (ofFields binary64 true x t) ≡ zero
+unfolding ofFields
+fields-negative ℕ.zero t = cut-negative 53 t 0 1074
+fields-negative (suc x) t = go (eqb (suc x) 2047)
+  where
+    go : (b : Bool) → cut (cond b (cond (eqb t 0) (inf true) nan) (odd 53 true (2 ^ 52 + t) x 1074)) ≡ zero
+    go true = cut-special (eqb t 0) true
+    go false = cut-negative 53 (2 ^ 52 + t) x 1074
+
+fields-special : (t : ℕ) → cut (ofFields binary64 false 2047 t) ≡ zero
+unfolding ofFields
+fields-special t = cut-special (eqb t 0) false
+
+read-is : (b : ℕ) (s : Bool) (x : ℕ) → leb (2 ^ 63) b ≡ s → b % 2 ^ 63 / 2 ^ 52 ≡ x → ofBits binary64 b ≡ ofFields binary64 s x (b % 2 ^ 52)
+unfolding ofBits
+read-is b s x p q = λ i. ofFields binary64 (p i) (q i) (b % 2 ^ 52)
+
+pub cut-number : (b : ℕ) → b < 0x7ff0_0000_0000_0000 → ofBits binary64 b ≡ cut (ofBits binary64 b)
+cut-number b h =
+    let r = read-is b false (b % 2 ^ 63 / 2 ^ 52) (lt-leb (2 ^ 63) b (omega arith)) refl in
+    sym (cut-same (ofBits binary64 b) (subst (λ (x : Float). T (from-zero x)) (sym r) (fields-number (b % 2 ^ 63 / 2 ^ 52) (b % 2 ^ 52) (omega arith))))
+
+pub cut-other : (b : ℕ) → 0x7ff0_0000_0000_0000 ≤ b → cut (ofBits binary64 b) ≡ zero
+cut-other b h = go (cases-lt b (2 ^ 63))
+  where
+    go : (b < 2 ^ 63) ⊎ (2 ^ 63 ≤ b) → cut (ofBits binary64 b) ≡ zero
+    go (inl l) = ap cut (read-is b false 2047 (lt-leb (2 ^ 63) b l) (omega arith)) ∙ fields-special (b % 2 ^ 52)
+    go (inr l) = ap cut (read-is b true (b % 2 ^ 63 / 2 ^ 52) (le-leb (2 ^ 63) b l) refl) ∙ fields-negative (b % 2 ^ 63 / 2 ^ 52) (b % 2 ^ 52)
 
 -- ---- nanoseconds
 

@@ -1,0 +1,4 @@
+pub mod Costs
+pub mod Estimates
+pub mod Endpoint
+pub mod Feed
