@@ -2,3 +2,4 @@ pub mod Costs
 pub mod Estimates
 pub mod Endpoint
 pub mod Feed
+pub mod Cases

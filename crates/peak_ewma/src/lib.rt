@@ -1,4 +1,5 @@
 // Response time as weight: an endpoint over any bare service, and a feed of such endpoints (tower: load/peak_ewma).
+pub mod cases;
 pub mod cost;
 pub mod endpoints;
 pub mod estimates;
