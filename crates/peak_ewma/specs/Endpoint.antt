@@ -13,10 +13,10 @@ use Rattle.service.specs.declared.refusal.Invalid.the-variants.{Duration}
 use Rattle.decay.specs.Decays.{Decays}
 use Rattle.ewma_model.specs.PeakEwma.{nanos, cost}
 use Rattle.ewma_model.proofs.PeakEwma.{reading-again}
-use Rattle.peak_ewma.specs.declared.cost.Cost.{Cost}
-use Rattle.peak_ewma.specs.declared.rtt_estimate.RttEstimate.{RttEstimate}
+use Rattle.ewma.specs.declared.cost.Cost.{Cost}
+use Rattle.ewma.specs.declared.rtt_estimate.RttEstimate.{RttEstimate}
 use Rattle.peak_ewma.specs.declared.peak_ewma.PeakEwma.{PeakEwma}
-use Rattle.peak_ewma.specs.Estimates.{estimate-from, updated}
+use Rattle.ewma.specs.Estimates.{estimate-from, updated}
 
 module _ {S D : Type 0} where
   -- no requests out, and the default for an estimate

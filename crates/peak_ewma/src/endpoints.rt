@@ -2,11 +2,11 @@
 ghost use mathlib.Core.Path.{_≡_};
 ghost use Rattle.peak_ewma.specs.Endpoint.{started, made, estimate-of, observed, peak-ewma};
 
-use crate::cost::Cost;
-use crate::estimates::nanos;
+use ewma::cost::Cost;
+use ewma::estimates::nanos;
 use crate::peak_ewma::PeakEwma;
-use crate::rtt_estimate::RttEstimate;
-use crate::weights::CostWeight;
+use ewma::rtt_estimate::RttEstimate;
+use ewma::weights::CostWeight;
 use decay::Decay;
 use service::Endpoint;
 use service::Service;

@@ -1,10 +1,6 @@
 // Response time as weight: an endpoint over any bare service, and a feed of such endpoints (tower: load/peak_ewma).
 pub mod cases;
-pub mod cost;
 pub mod endpoints;
-pub mod estimates;
 pub mod feeds;
 pub mod peak_ewma;
 pub mod peak_ewma_discover;
-pub mod rtt_estimate;
-pub mod weights;

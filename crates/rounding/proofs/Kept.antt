@@ -8,7 +8,7 @@ use native.Mathlib.Omega.{arith}
 use lib.Dec.{T, ltb, leb, le→leb, lt→ltb, ltb→lt, nltb→le, lit<}
 use lib.IntN.{ℤ, pos, negsuc, negℤ}
 use lib.Pow.{pow-pos, pow-add, pow-mono, pow-lt}
-use lib.Ieee.{Float, nan, inf, fin, Format, binary64, up, down, lt, le, neg, div, round, odd, fits, ofBits, ofFields, toUnsigned}
+use lib.Ieee.{Float, nan, inf, fin, Format, binary64, up, down, lt, le, neg, mul, div, round, odd, fits, ofBits, ofFields, toUnsigned}
 use lib.Ieee.Fits.{down-pos, up-pos, and-i}
 use lib.Ieee.Bits.{ofBits-fits}
 use lib.Ieee.Exact.{HasValue, odd-sign}
@@ -142,6 +142,25 @@ squared-more n x = refl
 pub squared-none : (x : Float) → squared 0 x ≡ x
 unfolding squared
 squared-none x = refl
+
+one-squared : one ⊗ one ≡ one
+unfolding mul
+one-squared = refl
+
+none-squared : zero ⊗ zero ≡ zero
+unfolding mul
+none-squared = refl
+
+pub squared-fixed : (n : ℕ) (x : Float) → x ⊗ x ≡ x → squared n x ≡ x
+unfolding squared
+squared-fixed ℕ.zero x e = refl
+squared-fixed (suc n) x e = ap (squared n) e ∙ squared-fixed n x e
+
+pub squared-one : squared 10 one ≡ one
+squared-one = squared-fixed 10 one one-squared
+
+pub squared-zero : squared 10 zero ≡ zero
+squared-zero = squared-fixed 10 zero none-squared
 
 pub squaring-whole : (x : Float) → lt x zero ≡ false → squaring x ≡ one
 squaring-whole x h = ap (λ (b : Bool). cond b (cond (le x (fin true 1 (pos 10))) zero (squared 10 (one ⊕ x ⊘ kilo))) one) h

@@ -2,7 +2,7 @@
 use Rattle.service.specs.Meaning.{Weights}
 use Rattle.rounding.specs.Floats.{up-to}
 use Rattle.rounding.proofs.Order.{up-to-total, up-to-chain}
-use Rattle.peak_ewma.specs.declared.cost.Cost.{Cost}
+use Rattle.ewma.specs.declared.cost.Cost.{Cost}
 
 abbrev pub costs : Weights Cost
 costs = record {
