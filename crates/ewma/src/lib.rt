@@ -2,4 +2,6 @@
 pub mod cost;
 pub mod estimates;
 pub mod rtt_estimate;
+#[cfg(test)]
+mod tests;
 pub mod weights;

@@ -17,7 +17,7 @@ use service::refusal::ServiceRefusal;
 use std::num::f64_to_bits_with_nan;
 use std::num::nearest_u64_to_f64;
 
-const CEILING: u32 = 4_294_967_294;
+pub(crate) const CEILING: u32 = 4_294_967_294;
 
 impl<S: Copy, D: Decay> PeakEwma<S, D> {
     // An endpoint with no requests out whose estimate is the default, updated at `at`; no duration may be zero.

@@ -4,3 +4,5 @@ pub mod endpoints;
 pub mod feeds;
 pub mod peak_ewma;
 pub mod peak_ewma_discover;
+#[cfg(test)]
+mod tests;
