@@ -2,7 +2,6 @@
 ghost use mathlib.Core.Path.{_≡_};
 ghost use Rattle.rounding.specs.Kept.{half-power, halving, squared, squaring};
 ghost use Rattle.decay.specs.Kinds.{halving-decays, squaring-decays};
-
 use crate::Decay;
 use crate::halving::Halving;
 use crate::squaring::Squaring;
@@ -25,7 +24,11 @@ fn half_power(k: u64) -> f64
 fn halvings(x: f64) -> u64
     ensures { λ r. ⌜ half-power r ≡ halving x ⌝ }
 {
-    if x < 0.0 { saturating_f64_to_u64(-x) } else { 0 }
+    if x < 0.0 {
+        saturating_f64_to_u64(-x)
+    } else {
+        0
+    }
 }
 
 pub impl Decay for Halving as HalvingDecay {

@@ -4,13 +4,13 @@ ghost use lib.Ieee.{binary64, ofBits, toBits};
 ghost use Rattle.rounding.specs.Floats.{one, _⊖_};
 ghost use Rattle.ewma_model.specs.PeakEwma as ewma;
 ghost use Rattle.ewma.specs.Estimates.{Estimates-stay, estimate-from, updated};
-
 use crate::rtt_estimate::RttEstimate;
 use decay::Decay;
 use std::num::f64_to_bits_with_nan;
 use std::num::nearest_u64_to_f64;
 
 const NANOS_PER_SECOND: u64 = 1_000_000_000;
+
 const INFINITY_BITS: u64 = 0x7ff0_0000_0000_0000;
 
 // Nanoseconds as a float: those below a second plus the whole seconds.
@@ -25,7 +25,11 @@ pub fn nanos(duration: u64) -> f64
 fn finite_from_bits(bits: u64) -> f64
     ensures { λ r. ⌜ r ≡ ewma.cut (ofBits binary64 bits) ⌝ }
 {
-    if bits < INFINITY_BITS { f64::from_bits(bits) } else { 0.0 }
+    if bits < INFINITY_BITS {
+        f64::from_bits(bits)
+    } else {
+        0.0
+    }
 }
 
 // What the share leaves of 1.
@@ -39,7 +43,11 @@ fn rest(share: f64) -> f64
 fn averaged(estimate: f64, rtt: f64, share: f64) -> f64
     ensures { λ r. ⌜ r ≡ ewma.averaged estimate rtt share ⌝ }
 {
-    if estimate < rtt { rtt } else { estimate * share + rtt * rest(share) }
+    if estimate < rtt {
+        rtt
+    } else {
+        estimate * share + rtt * rest(share)
+    }
 }
 
 impl RttEstimate {
@@ -47,7 +55,10 @@ impl RttEstimate {
     pub fn from_bits(bits: u64, update_at: u64) -> Self
         ensures { λ r. ⌜ r ≡ estimate-from bits «update_at» ⌝ }
     {
-        RttEstimate { rtt_ns: finite_from_bits(bits), update_at }
+        RttEstimate {
+            rtt_ns: finite_from_bits(bits),
+            update_at,
+        }
     }
 
     // The bits of the estimate.

@@ -6,13 +6,17 @@ use decay::kinds::HalvingDecay;
 use std::test::*;
 
 const SECOND: u64 = 1_000_000_000;
+
 const LARGEST_BITS: u64 = 0x7fef_ffff_ffff_ffff;
 
 #[test]
 fn first_and_last_instant() -> Result<(), Fail> {
     check(nanos(0) == 0.0)?;
     check(nanos(u64::MAX) == 18446744073709551616.0)?;
-    let mut estimate = RttEstimate { rtt_ns: nanos(SECOND), update_at: 0 };
+    let mut estimate = RttEstimate {
+        rtt_ns: nanos(SECOND),
+        update_at: 0,
+    };
     estimate.update(&Halving, SECOND, u64::MAX, u64::MAX);
     check(estimate.rtt_ns == 0.0)?;
     check(estimate.update_at == u64::MAX)
@@ -20,7 +24,10 @@ fn first_and_last_instant() -> Result<(), Fail> {
 
 #[test]
 fn clock_back() -> Result<(), Fail> {
-    let mut estimate = RttEstimate { rtt_ns: nanos(SECOND), update_at: u64::MAX };
+    let mut estimate = RttEstimate {
+        rtt_ns: nanos(SECOND),
+        update_at: u64::MAX,
+    };
     estimate.update(&Halving, SECOND, u64::MAX, 0);
     check(estimate.rtt_ns == nanos(SECOND))?;
     check(estimate.update_at == 0)

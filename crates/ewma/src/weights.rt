@@ -1,6 +1,5 @@
 // The order of costs.
 ghost use Rattle.ewma.specs.Costs.{costs};
-
 use crate::cost::Cost;
 use service::Weight;
 

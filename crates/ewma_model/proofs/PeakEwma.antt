@@ -3,7 +3,7 @@ use mathlib.Core.Path.{_≡_, refl, sym, ap, _∙_, subst}
 use mathlib.Core.Bool.{Bool, true, false, cond}
 use mathlib.Core.Logic.{_⊎_, inl, inr}
 use Prim.Native.Nat.{ℕ, suc, _+_, _-_, _*_, _/_, _%_, _^_, _≤_, _<_}
-use native.Mathlib.Nat.{zero-lt-suc, sub-self, mul-one, one-mul, mul-comm, mul-pos, zero-mul, mul-assoc, mul-le-mul-right, le-of-eq, le-trans, add-le-add, add-mul}
+use native.Mathlib.Nat.{zero-lt-suc, sub-self, mul-one, mul-comm, mul-pos, zero-mul, mul-assoc, mul-le-mul-right, le-of-eq, le-trans}
 use native.Mathlib.Omega.{arith}
 use lib.Dec.{T, leb, eqb, eqb·suc-zero, lit<, lit≤}
 use lib.IntN.{ℤ, pos}
@@ -15,7 +15,7 @@ use lib.Ieee.Scale.{round-same}
 use lib.Ieee.Positive.{num, den, den-pos}
 use Rattle.rounding.specs.Floats.{zero, one, nearest, from-zero, share, _⊕_, _⊖_, _⊗_, _⊘_}
 use Rattle.rounding.proofs.Values.{le→cross}
-use Rattle.rounding.proofs.Rounded.{share-up, le-refl, le-chain, not-below-zero, under, mul-mono, mul-share, mul-by-one, zero-times, add-is, add-none, one-less-one, rest-share, add-finite}
+use Rattle.rounding.proofs.Rounded.{share-up, le-refl, le-chain, not-below-zero, under, mul-mono, mul-share, mul-by-one, zero-times, add-is, add-none, rest-share, add-finite}
 use Rattle.decay.specs.Decays.{Decays}
 use Rattle.ewma_model.specs.PeakEwma.{nanos, cut, averaged, kept-after, responded, reading, cost}
 
@@ -211,8 +211,7 @@ module _ {D : Type 0} (decays : Decays D) (decay : D) (period : ℕ) where
       go false =
           let a = mul-share x f p q s in
           let b = mul-share r (one ⊖ f) p' q' (rest-share f s) in
-          let c : num (r ⊗ (one ⊖ f)) * 1 ≤ 2 ^ 65 * den (r ⊗ (one ⊖ f)) = le→cross (r ⊗ (one ⊖ f)) (two-to 65) (b .1) tt (le-chain (r ⊗ (one ⊖ f)) r (two-to 65) (b .1) p' tt (b .0) h) in
-          (
+          let c : num (r ⊗ (one ⊖ f)) * 1 ≤ 2 ^ 65 * den (r ⊗ (one ⊖ f)) = le→cross (r ⊗ (one ⊖ f)) (two-to 65) (b .1) tt (le-chain (r ⊗ (one ⊖ f)) r (two-to 65) (b .1) p' tt (b .0) h) in (
             add-finite (x ⊗ f) (r ⊗ (one ⊖ f)) (a .1) (mul-fits binary64 x f) (b .1)
                 (le-trans (le-of-eq (sym (mul-one (num (r ⊗ (one ⊖ f)))))) (le-trans c (mul-le-mul-right (den (r ⊗ (one ⊖ f))) (lit≤ tt)))),
             add-fits binary64 (x ⊗ f) (r ⊗ (one ⊖ f)),

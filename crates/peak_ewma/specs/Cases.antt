@@ -1,6 +1,6 @@
 -- Worked cases, with the decay Halving and a second for the default and the decay period.
 use mathlib.Core.Path.{_≡_}
-use Prim.Native.Nat.{ℕ, _*_, _^_}
+use Prim.Native.Nat.{_*_, _^_}
 use Rattle.rounding.specs.Floats.{nearest}
 use Rattle.decay.specs.declared.halving.Halving.{Halving}
 use Rattle.decay.specs.Kinds.{halving-decays}
@@ -8,10 +8,9 @@ use Rattle.ewma_model.specs.PeakEwma.{nanos}
 use Rattle.peak_ewma.specs.declared.peak_ewma.PeakEwma.{PeakEwma}
 use Rattle.peak_ewma.specs.Endpoint.{started, with-service, estimated, weighed}
 
-
 -- over some service, which no estimate and no weight looks at
 abbrev pub made-at-0 : PeakEwma (Unit {0}) Halving
-made-at-0 = started tt (record { }) (10 ^ 9) (10 ^ 9) 0
+made-at-0 = started tt (record {}) (10 ^ 9) (10 ^ 9) 0
 
 abbrev pub with-three-out : PeakEwma (Unit {0}) Halving
 with-three-out = with-service made-at-0 tt 3

@@ -1,6 +1,6 @@
 -- The endpoint over a bare service, weighed by response time.
 use mathlib.Core.Path.{_≡_, refl, ap}
-use mathlib.Core.Bool.{true, false, cond, _||_}
+use mathlib.Core.Bool.{cond, _||_}
 use Prim.Native.Nat.{ℕ, _+_, _-_}
 use lib.Dec.{eqb}
 use lib.Ieee.{Float, binary64, toBits}

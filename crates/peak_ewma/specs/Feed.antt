@@ -1,10 +1,10 @@
 -- The feed of endpoints over a feed of bare services.
-use mathlib.Core.Bool.{true, false, cond, _||_}
+use mathlib.Core.Bool.{cond, _||_}
 use Prim.Native.Nat.{ℕ}
 use lib.Dec.{eqb}
 use Rattle.std.specs.declared.result.Result.{Result}
 use Rattle.std.specs.declared.result.Result.the-variants.{Ok, Err}
-use Rattle.model.specs.Outcome.{Outcome, outcome}
+use Rattle.model.specs.Outcome.{outcome}
 use Rattle.service.specs.declared.refusal.Invalid.{Invalid}
 use Rattle.service.specs.declared.refusal.Invalid.the-variants.{Duration}
 use Rattle.discover.specs.Feeds.{Feeds}
@@ -32,7 +32,7 @@ each-inserted f (Remove k) = Remove k
 abbrev pub ewma-feeds : {F K S X D : Type 0} → Feeds F K S X → Feeds (PeakEwmaDiscover F D) K (PeakEwma S D) X
 ewma-feeds feeds = record {
   discovered = λ f at.
-    outcome
-    (each-inserted (λ s. started s (f .decay) (f .«default_rtt») (f .«decay_period») at) (feeds .discovered (f .discover) at .answer))
-    (feed-over (feeds .discovered (f .discover) at .after) (f .decay) (f .«default_rtt») (f .«decay_period»));
+      outcome
+      (each-inserted (λ s. started s (f .decay) (f .«default_rtt») (f .«decay_period») at) (feeds .discovered (f .discover) at .answer))
+      (feed-over (feeds .discovered (f .discover) at .after) (f .decay) (f .«default_rtt») (f .«decay_period»));
 }

@@ -1,13 +1,12 @@
 // The endpoint over a bare service.
 ghost use mathlib.Core.Path.{_≡_};
 ghost use Rattle.peak_ewma.specs.Endpoint.{started, made, estimate-of, observed, peak-ewma};
-
+use crate::peak_ewma::PeakEwma;
+use decay::Decay;
 use ewma::cost::Cost;
 use ewma::estimates::nanos;
-use crate::peak_ewma::PeakEwma;
 use ewma::rtt_estimate::RttEstimate;
 use ewma::weights::CostWeight;
-use decay::Decay;
 use service::Endpoint;
 use service::Service;
 use service::readiness::Readiness;
@@ -21,7 +20,13 @@ pub(crate) const CEILING: u32 = 4_294_967_294;
 
 impl<S: Copy, D: Decay> PeakEwma<S, D> {
     // An endpoint with no requests out whose estimate is the default, updated at `at`; no duration may be zero.
-    pub fn new(service: S, decay: D, default_rtt: u64, decay_period: u64, at: u64) -> Result<Self, Invalid>
+    pub fn new(
+        service: S,
+        decay: D,
+        default_rtt: u64,
+        decay_period: u64,
+        at: u64,
+    ) -> Result<Self, Invalid>
         ensures { λ r. ⌜ r ≡ made service decay «default_rtt» «decay_period» at ⌝ }
     {
         if default_rtt == 0 || decay_period == 0 {
@@ -31,11 +36,24 @@ impl<S: Copy, D: Decay> PeakEwma<S, D> {
     }
 
     // The same with durations that were looked at.
-    pub(crate) fn started(service: S, decay: D, default_rtt: u64, decay_period: u64, at: u64) -> Self
+    pub(crate) fn started(
+        service: S,
+        decay: D,
+        default_rtt: u64,
+        decay_period: u64,
+        at: u64,
+    ) -> Self
         ensures { λ r. ⌜ r ≡ started service decay «default_rtt» «decay_period» at ⌝ }
     {
         let rtt_bits = f64_to_bits_with_nan(nanos(default_rtt));
-        PeakEwma { service, decay, decay_period, rtt_bits, update_at: at, count: 0 }
+        PeakEwma {
+            service,
+            decay,
+            decay_period,
+            rtt_bits,
+            update_at: at,
+            count: 0,
+        }
     }
 
     // The estimate of the last update.
@@ -61,8 +79,11 @@ impl<S: Copy, D: Decay> PeakEwma<S, D> {
 
 pub impl<S: Service, D: Decay> Endpoint for PeakEwma<S, D> as PeakEwmaEndpoint {
     type Request = S::Request;
+
     type Response = S::Response;
+
     type Error = S::Error;
+
     type Metric = Cost;
 
     ghost means = { peak-ewma (D·Decay .decays) (S·Service .serves) };
@@ -94,6 +115,8 @@ pub impl<S: Service, D: Decay> Endpoint for PeakEwma<S, D> as PeakEwmaEndpoint {
 
     fn load(&mut self, at: u64) -> Cost {
         let estimate = self.update_estimate(at, at);
-        Cost { nanos: estimate * nearest_u64_to_f64(u64::from(self.count) + 1) }
+        Cost {
+            nanos: estimate * nearest_u64_to_f64(u64::from(self.count) + 1),
+        }
     }
 }

@@ -1,7 +1,6 @@
 // The feed of endpoints over a feed of bare services.
 ghost use mathlib.Core.Path.{_≡_};
 ghost use Rattle.peak_ewma.specs.Feed.{feed-made, ewma-feeds};
-
 use crate::peak_ewma::PeakEwma;
 use crate::peak_ewma_discover::PeakEwmaDiscover;
 use decay::Decay;
@@ -18,7 +17,12 @@ impl<F: Discover + Drop, D: Decay> PeakEwmaDiscover<F, D> {
         if default_rtt == 0 || decay_period == 0 {
             return Err(Invalid::Duration);
         }
-        Ok(PeakEwmaDiscover { discover, decay, default_rtt, decay_period })
+        Ok(PeakEwmaDiscover {
+            discover,
+            decay,
+            default_rtt,
+            decay_period,
+        })
     }
 }
 
@@ -27,7 +31,9 @@ where
     F::Service: Service,
 {
     type Key = F::Key;
+
     type Service = PeakEwma<F::Service, D>;
+
     type Error = F::Error;
 
     ghost feeds = { ewma-feeds (F·Discover .feeds) };
@@ -39,7 +45,10 @@ where
             Discovered::Fault(error) => Discovered::Fault(error),
             Discovered::Insert(key, service) => {
                 let (default_rtt, decay_period) = (self.default_rtt, self.decay_period);
-                Discovered::Insert(key, PeakEwma::started(service, self.decay, default_rtt, decay_period, at))
+                Discovered::Insert(
+                    key,
+                    PeakEwma::started(service, self.decay, default_rtt, decay_period, at),
+                )
             }
             Discovered::Remove(key) => Discovered::Remove(key),
         }

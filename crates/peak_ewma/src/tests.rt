@@ -2,7 +2,6 @@
 ghost use mathlib.Core.Path.{refl};
 ghost use Rattle.std.specs.declared.option.Option.the-variants.{Some, None};
 ghost use Rattle.service.specs.declared.readiness.Readiness.the-variants.{Ready};
-
 use crate::endpoints::CEILING;
 use crate::endpoints::PeakEwmaEndpoint;
 use crate::peak_ewma::PeakEwma;
@@ -29,18 +28,18 @@ struct Echo {
 
 impl Service for Echo as EchoService {
     type Request = u64;
+
     type Response = u64;
+
     type Error = u64;
 
-    ghost serves = {
-        record {
-            grant = λ s. s .granted;
-            polled = λ s at. record { answer = Ready; after = record { granted = Some at } };
-            accepted = λ s q at. record { answer = q; after = record { granted = None } };
-            polled-grant = λ s at. refl;
-            accepted-grant = λ s q at g. refl;
-        }
-    };
+    ghost serves = { record {
+      grant = λ s. s .granted;
+      polled = λ s at. record { answer = Ready; after = record { granted = Some at } };
+      accepted = λ s q at. record { answer = q; after = record { granted = None } };
+      polled-grant = λ s at. refl;
+      accepted-grant = λ s q at g. refl;
+    } };
 
     fn poll_ready(&mut self, at: u64) -> Readiness<u64> {
         self.granted = Some(at);
@@ -62,7 +61,14 @@ impl Service for Echo as EchoService {
 fn with_count(count: u32) -> PeakEwma<Echo, Halving> {
     let service = Echo { granted: Some(0) };
     let rtt_bits = f64_to_bits_with_nan(nanos(SECOND));
-    PeakEwma { service, decay: Halving, decay_period: SECOND, rtt_bits, update_at: 0, count }
+    PeakEwma {
+        service,
+        decay: Halving,
+        decay_period: SECOND,
+        rtt_bits,
+        update_at: 0,
+        count,
+    }
 }
 
 #[test]

@@ -1,15 +1,15 @@
 -- `halving` and `squaring` keep all where x is not below zero, and a share elsewhere.
 use mathlib.Core.Path.{_≡_, refl, sym, ap, _∙_, subst}
-use mathlib.Core.Bool.{Bool, true, false, not, cond, _||_, _&&_, true≢false}
+use mathlib.Core.Bool.{Bool, true, false, not, cond, _||_, true≢false}
 use mathlib.Core.Logic.{_⊎_, inl, inr}
 use Prim.Native.Nat.{ℕ, suc, _+_, _-_, _*_, _/_, _%_, _^_, _≤_, _<_, min}
-use native.Mathlib.Nat.{zero-mul, zero-div, mul-one, one-mul, mul-assoc, mul-comm, mul-pos, le-of-eq, le-trans, lt-of-lt-of-le, mul-le-mul-left}
+use native.Mathlib.Nat.{zero-div, mul-one, one-mul, mul-pos, le-of-eq, le-trans, lt-of-lt-of-le, mul-le-mul-left}
 use native.Mathlib.Omega.{arith}
-use lib.Dec.{T, ltb, leb, le→leb, lt→ltb, ltb→lt, nltb→le, lit<}
-use lib.IntN.{ℤ, pos, negsuc, negℤ}
+use lib.Dec.{T, ltb, leb, le→leb, lt→ltb, lit<}
+use lib.IntN.{ℤ, pos, negℤ}
 use lib.Pow.{pow-pos, pow-add, pow-mono, pow-lt}
-use lib.Ieee.{Float, nan, inf, fin, Format, binary64, up, down, lt, le, neg, mul, div, round, odd, fits, ofBits, ofFields, toUnsigned}
-use lib.Ieee.Fits.{down-pos, up-pos, and-i}
+use lib.Ieee.{Float, nan, inf, fin, binary64, up, down, lt, le, neg, mul, div, odd, fits, ofBits, ofFields, toUnsigned}
+use lib.Ieee.Fits.{down-pos, and-i}
 use lib.Ieee.Bits.{ofBits-fits}
 use lib.Ieee.Exact.{HasValue, odd-sign}
 use Rattle.std.proofs.shelf.Tests.{cases-lt, lt-ltb, le-ltb, ltb-true, ltb-false, ne-eqb, lt-leb}

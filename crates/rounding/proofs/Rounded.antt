@@ -1,21 +1,21 @@
 -- The rounded operations on numbers from 0 up.
 use mathlib.Core.Path.{_≡_, refl, sym, ap, _∙_, subst}
-use mathlib.Core.Bool.{Bool, true, false, cond, _&&_}
+use mathlib.Core.Bool.{Bool, true, false, cond}
 use mathlib.Core.Logic.{_⊎_, inl, inr}
 use Prim.Native.Nat.{ℕ, suc, _+_, _-_, _*_, _^_, _≤_, _<_}
-use native.Mathlib.Nat.{zero-mul, mul-one, one-mul, mul-pos, mul-comm, mul-assoc, mul-left-comm, mul-right-comm, mul-mul-mul-comm, mul-le-mul, mul-le-mul-left, mul-le-mul-right, le-trans, le-of-eq, lt-of-mul-lt-mul-right, add-le-add, add-mul}
+use native.Mathlib.Nat.{zero-mul, mul-one, one-mul, mul-pos, mul-comm, mul-assoc, mul-right-comm, mul-mul-mul-comm, mul-le-mul, mul-le-mul-left, mul-le-mul-right, le-trans, le-of-eq, lt-of-mul-lt-mul-right, add-le-add, add-mul}
 use native.Mathlib.Omega.{arith}
-use lib.Dec.{T, lit≤, ltb, leb, leb→le, le→leb, ltb→lt}
+use lib.Dec.{T, lit≤, ltb, leb→le, le→leb}
 use lib.IntN.{ℤ, pos, negsuc}
 use lib.Pow.{pow-mono, pow-add, pow-pos}
-use lib.Ieee.{Float, nan, inf, fin, Format, binary32, binary64, up, down, odd, units, round, sum, neg, add, sub, mul, le, lt, fits}
+use lib.Ieee.{Float, nan, inf, fin, binary64, up, down, odd, units, round, sum, neg, add, sub, mul, le, lt, fits}
 use lib.Ieee.Fits.{down-pos, round-is}
 use lib.Ieee.Order.{round-mono}
 use lib.Ieee.Scale.{round-same}
 use lib.Ieee.Positive.{num, den, den-pos, through}
 use Rattle.std.proofs.shelf.Tests.{cases-lt, le-ltb}
 use Rattle.rounding.specs.Floats.{from-zero, share, zero, one, _⊕_, _⊖_, _⊗_}
-use Rattle.rounding.proofs.Values.{Fitting, fitting, round-own, own-value, cross→le, le→cross, bounded-round}
+use Rattle.rounding.proofs.Values.{Fitting, fitting, round-own, cross→le, le→cross, bounded-round}
 
 -- ---- shares
 
@@ -132,10 +132,6 @@ add-none (fin false m e) p q =
     add-is (fin false m e) zero tt tt ∙ ap (λ (k : ℕ). round binary64 false k (down e * 1)) a ∙ ap (round binary64 false (m * up e)) (mul-one (down e)) ∙ round-own binary64 false m e q
 
 -- ---- what a share leaves of 1
-
-pub one-less-one : one ⊖ one ≡ zero
-unfolding sub
-one-less-one = refl
 
 rest-is : (x : Float) → T (share x) → one ⊖ x ≡ round binary64 false (den x - num x) (den x)
 unfolding sub add neg sum

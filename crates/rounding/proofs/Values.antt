@@ -2,15 +2,15 @@
 use mathlib.Core.Path.{_≡_, refl, sym, ap, _∙_, subst}
 use mathlib.Core.Bool.{Bool, true, false, not, cond, _||_, _&&_}
 use mathlib.Core.Logic.{_⊎_, inl, inr}
-use Prim.Native.Nat.{ℕ, zero, suc, _+_, _-_, _*_, _/_, _%_, _^_, _≤_, _<_, compare}
-use native.Mathlib.Nat.{mod-le, zero-mul, mul-le-mul-right, lt-of-lt-of-le, mul-one, one-mul, mul-pos, mul-comm, mul-assoc, mul-right-comm, le-of-eq, le-of-lt, lt-of-le-of-lt, lt-of-mul-lt-mul-right, mul-lt-mul-of-pos-right, add-sub-of-le, zero-lt-suc, le-trans}
+use Prim.Native.Nat.{ℕ, zero, suc, _+_, _-_, _*_, _/_, _%_, _^_, _≤_, _<_}
+use native.Mathlib.Nat.{mod-le, zero-mul, mul-le-mul-right, lt-of-lt-of-le, mul-one, one-mul, mul-pos, mul-comm, mul-assoc, mul-right-comm, le-of-eq, le-of-lt, lt-of-le-of-lt, lt-of-mul-lt-mul-right, mul-lt-mul-of-pos-right, le-trans}
 use native.Mathlib.Omega.{arith}
 use lib.Dec.{T, ltb, leb, eqb, leb→le, ltb→lt, eqb→eq}
 use lib.Arith.{le→nltb}
 use lib.IntN.{ℤ, pos, negsuc}
 use lib.Pow.{pow-add, pow-pos, pow-lt}
 use Rattle.std.proofs.shelf.Tests.{cases-lt}
-use lib.Ieee.{Float, nan, inf, fin, Format, prec, emax, low, up, down, size, nearest, round, odd, units, fits, ofBits, toBits, nanBits, top, hid, ones, le}
+use lib.Ieee.{Float, nan, inf, fin, Format, prec, emax, low, up, down, size, round, odd, units, fits, ofBits, toBits, nanBits, top, hid, ones, le}
 use lib.Ieee.Fits.{up-pos, down-pos, round-fits, round-is, and-l, and-r}
 use lib.Ieee.Bits.{ofBits-toBits, nanBits-above}
 use lib.Ieee.Exact.{HasValue, round-exact}

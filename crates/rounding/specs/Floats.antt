@@ -9,7 +9,6 @@ infixl 65 _⊕_
 infixl 65 _⊖_
 infixl 70 _⊗_
 infixl 70 _⊘_
-
 -- the four operations, rounded to the nearest
 abbrev pub _⊕_ : Float → Float → Float
 x ⊕ y = add binary64 x y

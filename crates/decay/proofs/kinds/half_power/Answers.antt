@@ -1,15 +1,11 @@
-use mathlib.Core.Path.{_≡_, sym, ap, _∙_, subst}
-use mathlib.Core.Bool.{not}
-use Prim.Native.Nat.{ℕ, _-_, _*_, _%_, _^_, _<_}
-use native.Mathlib.Nat.{one-mul}
+use mathlib.Core.Path.{_≡_, sym, ap, _∙_}
+use Prim.Native.Nat.{_-_, _*_, _%_, _^_, _<_}
 use native.Mathlib.Omega.{arith}
-use lib.Dec.{T}
 use lib.Pow.{pow-lt}
-use lib.Ieee.{binary64, nanBits, ofBits}
+use lib.Ieee.{binary64, ofBits}
 use Rattle.rounding.proofs.Values.{number-bits}
 use Rattle.rounding.proofs.Kept.{half-normal, half-small, half-none, zero-bits}
 use Rattle.decay.proofs.kinds.half_power.Needs as need
-
 
 pub float-from-bits-result : need.float-from-bits-result
 float-from-bits-result c = number-bits binary64 ((1023 - c .args .k) * 2 ^ 52 % 2 ^ 64) (omega arith)

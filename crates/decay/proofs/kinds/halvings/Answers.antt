@@ -1,4 +1,4 @@
-use mathlib.Core.Path.{refl, sym, ap, _∙_}
+use mathlib.Core.Path.{sym, ap, _∙_}
 use lib.Ieee.{lt}
 use Rattle.rounding.specs.Kept.{half-power}
 use Rattle.rounding.proofs.Kept.{halving-below, halving-whole, zero-bits}

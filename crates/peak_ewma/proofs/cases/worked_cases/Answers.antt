@@ -2,7 +2,7 @@ use mathlib.Core.Path.{_≡_, refl, sym, _∙_}
 use mathlib.Core.Bool.{false}
 use Prim.Native.Nat.{_*_, _^_}
 use lib.IntN.{pos}
-use lib.Ieee.{fin, round, ofInt, neg, add, sub, mul, div, lt, ofBits, toBits}
+use lib.Ieee.{fin, ofInt, neg, add, sub, mul, div, lt, ofBits, toBits}
 use Rattle.rounding.specs.Floats.{nearest}
 use Rattle.decay.specs.Kinds.{halving-decays}
 use Rattle.ewma_model.specs.PeakEwma.{nanos}
