@@ -11,6 +11,8 @@ use Rattle.std.specs.declared.result.Result.the-variants.{Ok, Err}
 use Rattle.model.specs.Outcome.{Outcome, outcome}
 use Rattle.model.specs.Options.{by-some, by-result}
 use Rattle.model.specs.Lists.{at}
+use Rattle.service.specs.Meaning.{Sameness}
+use Rattle.discover.specs.Feeds.{Feeds}
 use Rattle.service.specs.declared.poll.Poll.the-variants.{Ready, Pending}
 use Rattle.discover.specs.declared.discovered.Discovered.{Discovered}
 use Rattle.discover.specs.declared.discovered.Discovered.the-variants as feed
@@ -96,6 +98,35 @@ still-selected selected n None = selected
 still-selected None n (Some gone) = None
 still-selected (Some i) n (Some gone) = cond (eqb i gone || eqb (suc i) n) None (Some i)
 
+-- one answer of the feed: whether to go on, or what ends the poll; and what is left. A push has its log.
+pub record Read (K S D F : Type 0) : Type 0 where
+  pub answer : Result Bool (PollError K F)
+  pub feed : D
+  pub selected : Option ℕ
+  pub cache : Cache K S
+  pub pushes : List (Pushed S)
+
+module _ {K S D F : Type 0} (keys : Sameness K) (feeds : Feeds D K S F) (now : ℕ) where
+  -- an Insert pushes, a Remove evicts; a Pending, an End, a fault and a refused push end the reading
+  abbrev pub read-one : D → Option ℕ → Cache K S → Read K S D F
+  read-one d selected c =
+      let left = feeds .discovered d now in
+      by-discovered (left .answer)
+      (record { answer = Ok false; feed = left .after; selected = selected; cache = c; pushes = [] })
+      (λ f. record { answer = Err (Discover f); feed = left .after; selected = selected; cache = c; pushes = [] })
+      (λ k s.
+        let p = push keys c k s in
+        by-result (p .answer)
+        (λ serial. record { answer = Ok true; feed = left .after; selected = selected; cache = p .after; pushes = record { serial = serial; worker = s } ∷ [] })
+        (λ e. record { answer = Err (Push e); feed = left .after; selected = selected; cache = p .after; pushes = [] }))
+      (λ k. record {
+        answer = Ok true;
+        feed = left .after;
+        selected = still-selected selected (length (c .ready)) (ready-place keys k (c .ready));
+        cache = evict keys c k .after;
+        pushes = [];
+      })
+
 -- what reading the feed leaves; `fault` is set where the poll ends there
 pub record Fed (K S D F : Type 0) : Type 0 where
   pub feed : D
@@ -104,8 +135,12 @@ pub record Fed (K S D F : Type 0) : Type 0 where
   pub pushes : List (Pushed S)
   pub fault : Option (PollError K F)
 
-abbrev pub pushing-first : {K S D F : Type 0} → Pushed S → Fed K S D F → Fed K S D F
-pushing-first p f = record { feed = f .feed; selected = f .selected; cache = f .cache; pushes = p ∷ f .pushes; fault = f .fault }
+abbrev pub pushing-first : {K S D F : Type 0} → List (Pushed S) → Fed K S D F → Fed K S D F
+pushing-first pushes f = record { feed = f .feed; selected = f .selected; cache = f .cache; pushes = pushes ++ f .pushes; fault = f .fault }
+
+-- the reading ends there, with a fault or without
+abbrev pub stopping : {K S D F : Type 0} → Read K S D F → Option (PollError K F) → Fed K S D F
+stopping r fault = record { feed = r .feed; selected = r .selected; cache = r .cache; pushes = r .pushes; fault = fault }
 
 -- ---- looking for a ready worker
 
@@ -160,16 +195,10 @@ module _ {K S Q A E W D F R : Type 0} (m : Meanings K S Q A E W D F R) (now : �
   abbrev pub read-feed : ℕ → D → Option ℕ → Cache K S → Fed K S D F
   read-feed zero d selected c = record { feed = d; selected = selected; cache = c; pushes = []; fault = None }
   read-feed (suc budget) d selected c =
-      let left = m .feeds .discovered d now in
-      by-discovered (left .answer)
-      (record { feed = left .after; selected = selected; cache = c; pushes = []; fault = None })
-      (λ f. record { feed = left .after; selected = selected; cache = c; pushes = []; fault = Some (Discover f) })
-      (λ k s.
-      let p = push (m .keys) c k s in
-      by-result (p .answer)
-      (λ serial. pushing-first (record { serial = serial; worker = s }) (read-feed budget (left .after) selected (p .after)))
-      (λ e. record { feed = left .after; selected = selected; cache = p .after; pushes = []; fault = Some (Push e) }))
-      (λ k. read-feed budget (left .after) (still-selected selected (length (c .ready)) (ready-place (m .keys) k (c .ready))) (evict (m .keys) c k .after))
+      let r = read-one (m .keys) (m .feeds) now d selected c in
+      by-result (r .answer)
+      (λ more. cond more (pushing-first (r .pushes) (read-feed budget (r .feed) (r .selected) (r .cache))) (stopping r None))
+      (λ e. stopping r (Some e))
 
   -- `poll_pending` until it no longer fails; each worker that fails leaves, so `fuel` above the pending length never runs out
   abbrev pub settle : ℕ → Cache K S → Settled K S E
