@@ -6,6 +6,7 @@ ghost use Rattle.balance.specs.View.{view};
 
 pub mod balance;
 mod feed;
+mod poll;
 mod search;
 
 use balance::Balance;

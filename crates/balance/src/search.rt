@@ -1,16 +1,15 @@
 // The search for a ready worker.
 ghost use mathlib.Core.Path.{_≡_};
-ghost use lib.ListN.{length};
-ghost use Rattle.model.specs.Options.{by-some};
-ghost use Rattle.cache_model.specs.Cache.{check};
+ghost use Prim.Native.Nat.{ℕ, _≤_};
+ghost use Rattle.std.specs.declared.result.Result.the-variants.{Err};
+ghost use Rattle.cache_model.specs.Cache.{poll-pending};
 ghost use Rattle.balance_model.specs.Draw.{weigh, draw};
 ghost use Rattle.balance_model.specs.Balance.{settle-all, select};
 ghost use Rattle.ready_cache.specs.View.{view as cache-view};
-ghost use Rattle.balance.specs.View.{kinds, drawn-place, Settled-as, check-selected, Sought-as, with-words};
+ghost use Rattle.balance.specs.View.{kinds, drawn-place, loses-one, Settled-as, check-selected, lost-by, Sought-as, with-words};
 
 use crate::balance::Balance;
 use balance_model::answer::PollError;
-use cache_model::error::Failed;
 use cache_model::error::PendingError;
 use discover::Discover;
 use ready_cache::cache::ReadyCache;
@@ -19,6 +18,38 @@ use rng::sample_floyd2;
 use service::Endpoint;
 use service::Key;
 use service::Weight;
+
+// What ended a pass early: a worker that failed and left, or no place among the ready, which ends the poll.
+fn lost_or_stuck<K: Copy, E: Copy, F: Copy>(error: PendingError<K, E>) -> Result<bool, PollError<K, F>>
+    ensures { λ r. ⌜ r ≡ loses-one (Err error) ⌝ }
+{
+    match error {
+        PendingError::NoPlace(key) => Err(PollError::NoPlace(key)),
+        PendingError::Failed(_) => Ok(true),
+    }
+}
+
+// Passes over pending once; answers whether a worker failed and left.
+fn loses_one<K: Key, S: Endpoint, F: Copy>(cache: &mut ReadyCache<'_, K, S>, at: u64) -> Result<bool, PollError<K, F>>
+    ensures answer { λ r. ⌜ r ≡ loses-one (poll-pending sameness means at (cache-view (now (cache .entry))) .answer) ⌝ }
+    ensures after { λ _. ⌜ cache-view (now (cache .exit)) ≡ poll-pending sameness means at (cache-view (now (cache .entry))) .after ⌝ }
+{
+    match cache.poll_pending(at) {
+        Ok(_) => Ok(false),
+        Err(error) => lost_or_stuck(error),
+    }
+}
+
+// Passes over pending until none fails; answers how many did.
+pub(crate) fn settle<K: Key, S: Endpoint, F: Copy>(cache: &mut ReadyCache<'_, K, S>, at: u64) -> Result<u32, PollError<K, F>>
+    ensures { λ r. ⌜ Settled-as (settle-all sameness means at (cache-view (now (cache .entry)))) r (cache-view (now (cache .exit))) ⌝ }
+{
+    let mut lost: u32 = 0;
+    while loses_one(cache, at)? {
+        lost += 1;
+    }
+    Ok(lost)
+}
 
 // The lighter of two ready workers by their places: the first, unless it is heavier. Its load is read first.
 fn lighter<K: Key, S: Endpoint>(cache: &mut ReadyCache<'_, K, S>, a: usize, b: usize, at: u64) -> usize
@@ -39,14 +70,18 @@ fn lighter<K: Key, S: Endpoint>(cache: &mut ReadyCache<'_, K, S>, a: usize, b: u
     }
 }
 
-// Asks the selected worker, if there is one, whether it is ready.
-fn check_selected<K: Key, S: Endpoint>(cache: &mut ReadyCache<'_, K, S>, selected: Option<usize>, at: u64) -> Result<bool, Failed<K, S::Error>>
-    ensures answer { λ r. ⌜ r ≡ check-selected sameness means at (cache-view (now (cache .entry))) selected .answer ⌝ }
+// Asks the selected worker, if there is one, whether it is ready: none where it is, otherwise how many were lost by asking, which is one if it failed.
+fn ask_selected<K: Key, S: Endpoint>(cache: &mut ReadyCache<'_, K, S>, selected: Option<usize>, at: u64) -> Option<u32>
+    ensures answer { λ r. ⌜ r ≡ lost-by (check-selected sameness means at (cache-view (now (cache .entry))) selected .answer) ⌝ }
     ensures after { λ _. ⌜ cache-view (now (cache .exit)) ≡ check-selected sameness means at (cache-view (now (cache .entry))) selected .after ⌝ }
 {
-    match selected {
-        Some(i) => cache.check_ready_index(i, at),
-        None => Ok(false),
+    let Some(i) = selected else {
+        return Some(0);
+    };
+    match cache.check_ready_index(i, at) {
+        Ok(true) => None,
+        Ok(false) => Some(0),
+        Err(_) => Some(1),
     }
 }
 
@@ -69,5 +104,24 @@ where
         }
         let [a, b] = sample_floyd2(&mut self.rng, len as u64);
         Some(lighter(cache, a as usize, b as usize, at))
+    }
+
+    // Checks the selected worker and draws others until one is ready or none is left; answers its place, and how many were lost.
+    pub(crate) fn choose(&mut self, cache: &mut ReadyCache<'_, D::Key, D::Service>, at: u64, lost: u32) -> (Option<usize>, u32)
+        requires { ⌜ lost ≤ 4096 ⌝ }
+        ensures { λ r. ⌜ Sought-as (select (kinds (Key·Key .sameness) (Service·Endpoint .means) (Metric·Weight .order) (D·Discover .feeds) (R·Rng .source)) at (now (self .entry) .selected) (cache-view (now (cache .entry))) (now (self .entry) .rng)) lost r (now (self .entry)) (now (self .exit)) (cache-view (now (cache .exit))) ⌝ }
+    {
+        let mut lost = lost;
+        let mut selected = self.selected;
+        loop {
+            let Some(gone) = ask_selected(cache, selected, at) else {
+                return (selected, lost);
+            };
+            lost += gone;
+            selected = self.p2c_ready_index(cache, at);
+            if selected.is_none() {
+                return (None, lost);
+            }
+        }
     }
 }

@@ -11,8 +11,9 @@ use Rattle.std.specs.declared.result.Result.the-variants.{Ok, Err}
 use Rattle.model.specs.Outcome.{Outcome, outcome}
 use Rattle.model.specs.Options.{by-some, by-result}
 use Rattle.model.specs.Lists.{at}
-use Rattle.service.specs.Meaning.{Sameness}
+use Rattle.service.specs.Meaning.{Sameness, Endpoints}
 use Rattle.discover.specs.Feeds.{Feeds}
+use Rattle.service.specs.declared.poll.Poll.{Poll}
 use Rattle.service.specs.declared.poll.Poll.the-variants.{Ready, Pending}
 use Rattle.discover.specs.declared.discovered.Discovered.{Discovered}
 use Rattle.discover.specs.declared.discovered.Discovered.the-variants as feed
@@ -163,6 +164,10 @@ pub record Sought (K S E R : Type 0) : Type 0 where
   pub asked : List (Question E)
   pub draws : List (Draw K S)
 
+-- the serial of the ready worker at a place, if there is one
+abbrev pub serial-at : {K S : Type 0} → Cache K S → Option ℕ → Poll ℕ
+serial-at c place = by-some place Pending (λ i. by-some (at (c .ready) i) Pending (λ e. Ready (e .serial)))
+
 abbrev pub after-these : {K S E R : Type 0} → List (Question E) → List (Draw K S) → ℕ → Sought K S E R → Sought K S E R
 after-these asked draws lost s = record { place = s .place; cache = s .cache; words = s .words; lost = lost + s .lost; asked = asked ++ s .asked; draws = draws ++ s .draws }
 
@@ -190,6 +195,20 @@ pub record Complete-outcome (K S : Type 0) : Type 0 where
   pub cache : Cache K S
   pub docket : Docket
 
+module _ {K S Q A E W : Type 0} (keys : Sameness K) (ends : Endpoints S Q A E W) (now : ℕ) where
+  -- `poll_pending` until it no longer fails; each worker that fails leaves, so `fuel` above the pending length never runs out
+  abbrev pub settle : ℕ → Cache K S → Settled K S E
+  settle zero c = record { cache = c; lost = 0; asked = []; stuck = None }
+  settle (suc fuel) c =
+      let p = poll-pending keys ends now c in
+      by-pass (p .answer)
+      (record { cache = p .after; lost = 0; asked = p .asked; stuck = None })
+      (λ k. record { cache = p .after; lost = 0; asked = p .asked; stuck = Some k })
+      (λ _. losing-one (p .asked) (settle fuel (p .after)))
+
+  abbrev pub settle-all : Cache K S → Settled K S E
+  settle-all c = settle (suc (length (c .pending))) c
+
 module _ {K S Q A E W D F R : Type 0} (m : Meanings K S Q A E W D F R) (now : ℕ) where
   -- at most `budget` feed answers, up to a Pending or an End; a fault or a refused push ends it
   abbrev pub read-feed : ℕ → D → Option ℕ → Cache K S → Fed K S D F
@@ -199,19 +218,6 @@ module _ {K S Q A E W D F R : Type 0} (m : Meanings K S Q A E W D F R) (now : �
       by-result (r .answer)
       (λ more. cond more (pushing-first (r .pushes) (read-feed budget (r .feed) (r .selected) (r .cache))) (stopping r None))
       (λ e. stopping r (Some e))
-
-  -- `poll_pending` until it no longer fails; each worker that fails leaves, so `fuel` above the pending length never runs out
-  abbrev pub settle : ℕ → Cache K S → Settled K S E
-  settle zero c = record { cache = c; lost = 0; asked = []; stuck = None }
-  settle (suc fuel) c =
-      let p = poll-pending (m .keys) (m .endpoints) now c in
-      by-pass (p .answer)
-      (record { cache = p .after; lost = 0; asked = p .asked; stuck = None })
-      (λ k. record { cache = p .after; lost = 0; asked = p .asked; stuck = Some k })
-      (λ _. losing-one (p .asked) (settle fuel (p .after)))
-
-  abbrev pub settle-all : Cache K S → Settled K S E
-  settle-all c = settle (suc (length (c .pending))) c
 
   -- the place is checked; where it is not ready, the search goes on by `more`
   abbrev pub try : (Cache K S → R → Sought K S E R) → ℕ → Cache K S → R → Sought K S E R
@@ -236,15 +242,10 @@ module _ {K S Q A E W D F R : Type 0} (m : Meanings K S Q A E W D F R) (now : �
   abbrev pub select : Option ℕ → Cache K S → R → Sought K S E R
   select selected c r = by-some selected (seek-all c r) (λ i. try seek-all i c r)
 
-  -- the answer where the search found a place: the serial there
-  abbrev pub poll-answer : Sought K S E R → ℕ → Option ℕ → Polled
-  poll-answer s lost place =
-      record { worker = by-some place Pending (λ i. by-some (at (s .cache .ready) i) Pending (λ e. Ready (e .serial))); lost = lost }
-
   -- a poll that came to its end is fresh if it found a place
   abbrev pub ended : Balancer D R → Fed K S D F → Settled K S E → Sought K S E R → Poll-outcome K S E D F R
   ended b fed settled sought = record {
-    answer = Ok (poll-answer sought (settled .lost + sought .lost) (sought .place));
+    answer = Ok (record { worker = serial-at (sought .cache) (sought .place); lost = settled .lost + sought .lost });
     balancer = record { feed = fed .feed; words = sought .words; budget = b .budget; selected = sought .place; fresh = by-some (sought .place) false (λ _. true) };
     cache = sought .cache;
     log = record { pushes = fed .pushes; asked = settled .asked ++ sought .asked; draws = sought .draws };
@@ -262,7 +263,7 @@ module _ {K S Q A E W D F R : Type 0} (m : Meanings K S Q A E W D F R) (now : �
   abbrev pub poll : Balancer D R → Cache K S → Poll-outcome K S E D F R
   poll b c =
       let fed = read-feed (b .budget) (b .feed) (b .selected) c in
-      let settled = settle-all (fed .cache) in
+      let settled = settle-all (m .keys) (m .endpoints) now (fed .cache) in
       by-some (fed .fault)
       (by-some (settled .stuck)
       (ended b fed settled (select (fed .selected) (settled .cache) (b .words)))
