@@ -22,12 +22,17 @@ use Rattle.cache_model.specs.Cache.{Cache, Asked, check, held}
 use Rattle.balance_model.specs.declared.answer.PollError.{PollError}
 use Rattle.balance_model.specs.declared.answer.PollError.the-variants.{NoPlace}
 use Rattle.balance_model.specs.Meanings.{Meanings}
-use Rattle.balance_model.specs.Balance.{Balancer, Read, Fed, Settled, Sought}
+use Rattle.balance_model.specs.Balance.{Balancer, State, Read, Fed, Settled, Sought}
+use Rattle.balance_model.specs.Docket.{Docket}
 use Rattle.balance_model.specs.Draw.{Drawn}
 use Rattle.balance.specs.declared.balance.Balance.{Balance}
 
 abbrev pub view : {D R : Type 0} → Balance D R → Balancer D R
 view b = record { feed = b .discover; words = b .rng; budget = b .budget; selected = b .selected; fresh = b .fresh }
+
+-- a balancer with its cache and docket
+abbrev pub state : {K S D R : Type 0} → Balance D R → Cache K S → Docket → State K S D R
+state b c d = record { balancer = view b; cache = c; docket = d }
 
 -- the meanings of keys, workers, weights, feed and words
 abbrev pub kinds : {K S Q A E W D F R : Type 0} → Sameness K → Endpoints S Q A E W → Weights W → Feeds D K S F → Words R → Meanings K S Q A E W D F R

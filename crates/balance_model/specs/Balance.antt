@@ -298,9 +298,10 @@ module _ {K S Q A E W D F R : Type 0} (m : Meanings K S Q A E W D F R) (now : �
       (by-some (st .balancer .selected) (refused st (error.Cache NotReady)) (call-at st q))
       (λ r. refused st (error.Docket r)))
 
-  abbrev pub held-or-gone : Bool → Completion
-  held-or-gone held = cond held Held Gone
+abbrev pub held-or-gone : Bool → Completion
+held-or-gone held = cond held Held Gone
 
+module _ {K S Q A E W : Type 0} (ends : Endpoints S Q A E W) (now : ℕ) where
   -- `complete` takes the ticket's record from the docket, and tells the worker with its serial
   abbrev pub complete : Cache K S → Docket → ℕ → Complete-outcome K S
   complete c d ticket =
@@ -308,5 +309,5 @@ module _ {K S Q A E W D F R : Type 0} (m : Meanings K S Q A E W D F R) (now : �
       by-some (gone .answer)
       (record { answer = Err UnknownTicket; cache = c; docket = d })
       (λ r.
-      let told = finish (m .endpoints) now c (r .serial) (r .sent) in
+      let told = finish ends now c (r .serial) (r .sent) in
       record { answer = Ok (held-or-gone (told .answer)); cache = told .after; docket = gone .after })
