@@ -9,6 +9,7 @@ ghost use Rattle.ready_cache.specs.View.{view};
 ghost use Rattle.ready_cache.specs.Passing.{Turned, Promoted, Refused, Ends};
 
 use crate::cache::ReadyCache;
+use crate::entries;
 use crate::places::Places;
 use crate::wanted::OfKey;
 use crate::wanted::TestOfKey;
@@ -19,7 +20,6 @@ use cache_model::error::PendingError;
 use service::Endpoint;
 use service::Key;
 use service::poll::Poll;
-use service::readiness::Readiness;
 
 // Comes to the next entry, and answers it if it is ready; one that is pending moves to the front, and any other is passed over.
 fn turn<K: Copy, S: Endpoint>(items: &mut [Entry<K, S>], places: &mut Places, at: u64) -> Result<Option<Entry<K, S>>, Failed<K, S::Error>>
@@ -31,18 +31,21 @@ fn turn<K: Copy, S: Endpoint>(items: &mut [Entry<K, S>], places: &mut Places, at
         places.read = read + 1;
         return Ok(None);
     }
-    match items[read].endpoint.poll_ready(at) {
-        Readiness::Ready => Ok(Some(items[read])),
-        Readiness::Pending => {
+    let len = items.len();
+    match entries::ask(items, len, read, at) {
+        Ok(ready) => {
+            if ready {
+                return Ok(Some(items[read]));
+            }
             let write = places.write;
             items[write] = items[read];
             places.read = read + 1;
             places.write = write + 1;
             Ok(None)
         }
-        Readiness::Failed(error) => {
+        Err(failed) => {
             places.read = read + 1;
-            Err(Failed { key: items[read].key, error })
+            Err(failed)
         }
     }
 }
