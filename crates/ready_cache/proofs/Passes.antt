@@ -24,7 +24,7 @@ use Rattle.cache_model.specs.declared.error.PendingError.the-variants as error
 use Rattle.cache_model.specs.Answers.{by-readiness}
 use Rattle.cache_model.specs.Entries.{holding, promote}
 use Rattle.cache_model.specs.Cache.{Question, Passed, asking-first, pass, has-place}
-use Rattle.ready_cache.specs.Asking.{told}
+use Rattle.entries.specs.Asking.{told}
 use Rattle.ready_cache.proofs.Steps.{pick-ready, pick-pending, pick-failed}
 use Rattle.ready_cache.specs.declared.places.Places.{Places}
 use Rattle.ready_cache.specs.Passing.{over, kept, Turned, Promoted, Refused, Ended, ended, fault-of, left-of, Went, Ends}
@@ -142,8 +142,8 @@ module _ {K S Q A E W : Type 0} (keys : Sameness K) (ends : Endpoints S Q A E W)
   goes-on xs ys q (Ok None) = left-of keys ends now capacity end xs ys q
   goes-on xs ys q (Ok (Some e)) =
       cond (has-place keys capacity (take (q .ready) xs) (e .key))
-        (ended (pass keys ends now capacity (promote keys e (take (q .ready) xs)) (take (q .write) ys) (drop (q .read + 1) (take end ys))))
-        (stopped xs ys q (error.NoPlace (e .key)))
+      (ended (pass keys ends now capacity (promote keys e (take (q .ready) xs)) (take (q .write) ys) (drop (q .read + 1) (take end ys))))
+      (stopped xs ys q (error.NoPlace (e .key)))
   goes-on xs ys q (Err f) = stopped xs ys q (error.Failed f)
 
   module _ (xs ys : List (Entry K S)) (p : Places) (behind : p .write ≤ p .read) (more : p .read < end) (long : end ≤ length ys) (e : Entry K S) where
@@ -162,8 +162,8 @@ module _ {K S Q A E W : Type 0} (keys : Sameness K) (ends : Endpoints S Q A E W)
         ap (λ z. f ∷ z) (rest-kept f) ∙ sym (drop-here (set ys (p .read) f) end (p .read) f more l (sym (getD-set-same ys (p .read) f f (omega arith))))
 
     by-place : (f : Entry K S) (b : Bool) →
-      ended (cond b (pass keys ends now capacity (promote keys f (take (p .ready) xs)) (take (p .write) ys) rest) (record { ready = take (p .ready) xs; kept = take (p .write) ys; rest = f ∷ rest; fault = Some (error.NoPlace (e .key)); asked = [] }))
-      ≡ cond b (ended (pass keys ends now capacity (promote keys f (take (p .ready) xs)) (take (p .write) (set ys (p .read) f)) (drop (p .read + 1) (take end (set ys (p .read) f))))) (stopped xs (set ys (p .read) f) p (error.NoPlace (e .key)))
+        ended (cond b (pass keys ends now capacity (promote keys f (take (p .ready) xs)) (take (p .write) ys) rest) (record { ready = take (p .ready) xs; kept = take (p .write) ys; rest = f ∷ rest; fault = Some (error.NoPlace (e .key)); asked = [] }))
+        ≡ cond b (ended (pass keys ends now capacity (promote keys f (take (p .ready) xs)) (take (p .write) (set ys (p .read) f)) (drop (p .read + 1) (take end (set ys (p .read) f))))) (stopped xs (set ys (p .read) f) p (error.NoPlace (e .key)))
     by-place f true =
         ap (λ z. ended (pass keys ends now capacity (promote keys f (take (p .ready) xs)) z rest)) (front-kept f)
         ∙ ap (λ z. ended (pass keys ends now capacity (promote keys f (take (p .ready) xs)) (take (p .write) (set ys (p .read) f)) z)) (rest-kept f)
@@ -172,14 +172,14 @@ module _ {K S Q A E W : Type 0} (keys : Sameness K) (ends : Endpoints S Q A E W)
         ∙ ap (λ z. record { ready = take (p .ready) xs; kept = take (p .write) (set ys (p .read) f); rest = z; fault = Some (error.NoPlace (e .key)) }) (asked-here f)
 
     by-turn : (f : Entry K S) (question : Question E) (b : Bool) (a : Readiness E) → f .key ≡ e .key →
-      ended (cond b (pass keys ends now capacity (take (p .ready) xs) (take (p .write) ys) rest)
+        ended (cond b (pass keys ends now capacity (take (p .ready) xs) (take (p .write) ys) rest)
         (asking-first question (by-readiness a
-          (cond (has-place keys capacity (take (p .ready) xs) (e .key))
-            (pass keys ends now capacity (promote keys f (take (p .ready) xs)) (take (p .write) ys) rest)
-            (record { ready = take (p .ready) xs; kept = take (p .write) ys; rest = f ∷ rest; fault = Some (error.NoPlace (e .key)); asked = [] }))
-          (pass keys ends now capacity (take (p .ready) xs) (take (p .write) ys ++ (f ∷ [])) rest)
-          (λ x. record { ready = take (p .ready) xs; kept = take (p .write) ys; rest = rest; fault = Some (error.Failed (record { key = e .key; error = x })); asked = [] }))))
-      ≡ goes-on xs (cond b ys (by-readiness a (set ys (p .read) f) (set (set ys (p .read) f) (p .write) f) (λ _. set ys (p .read) f))) (cond b (over p) (by-readiness a p (kept p) (λ _. over p))) (cond b (Ok None) (by-readiness a (Ok (Some f)) (Ok None) (λ x. Err (record { key = e .key; error = x }))))
+        (cond (has-place keys capacity (take (p .ready) xs) (e .key))
+        (pass keys ends now capacity (promote keys f (take (p .ready) xs)) (take (p .write) ys) rest)
+        (record { ready = take (p .ready) xs; kept = take (p .write) ys; rest = f ∷ rest; fault = Some (error.NoPlace (e .key)); asked = [] }))
+        (pass keys ends now capacity (take (p .ready) xs) (take (p .write) ys ++ (f ∷ [])) rest)
+        (λ x. record { ready = take (p .ready) xs; kept = take (p .write) ys; rest = rest; fault = Some (error.Failed (record { key = e .key; error = x })); asked = [] }))))
+        ≡ goes-on xs (cond b ys (by-readiness a (set ys (p .read) f) (set (set ys (p .read) f) (p .write) f) (λ _. set ys (p .read) f))) (cond b (over p) (by-readiness a p (kept p) (λ _. over p))) (cond b (Ok None) (by-readiness a (Ok (Some f)) (Ok None) (λ x. Err (record { key = e .key; error = x }))))
     by-turn f question true a k = refl
     by-turn f question false Ready k =
         by-place f (has-place keys capacity (take (p .ready) xs) (e .key))
@@ -217,9 +217,9 @@ module _ {K S Q A E W : Type 0} (keys : Sameness K) (ends : Endpoints S Q A E W)
           went = now-at;
           done = λ _. done;
           same =
-            sym same
-            ∙ ap (λ z. ended (pass keys ends now capacity (take (p .ready) xs′) (take (p .write) ys′) z)) none
-            ∙ ap (λ z. record { ready = take (p .ready) xs′; kept = take (p .write) ys′; rest = z; fault = None }) (sym none);
+              sym same
+              ∙ ap (λ z. ended (pass keys ends now capacity (take (p .ready) xs′) (take (p .write) ys′) z)) none
+              ∙ ap (λ z. record { ready = take (p .ready) xs′; kept = take (p .write) ys′; rest = z; fault = None }) (sym none);
         }
 
     module _ (more : p .read < end) (zs : List (Entry K S)) (q : Places) (as-long : length zs ≡ length ys′) where
@@ -231,15 +231,17 @@ module _ {K S Q A E W : Type 0} (keys : Sameness K) (ends : Endpoints S Q A E W)
       -- the next one left or stayed
       pub step-none : Turned ends now ys′ p (Ok None) zs q → Went keys ends now capacity end xs ys xs′ zs p₀ q × (left-of keys ends now capacity end xs′ zs q ≡ left-of keys ends now capacity end xs ys p₀)
       step-none d =
-          let at = placed ends now ys′ zs p q (Ok None) d in
-          (record {
-            behind = omega (arith, now-at .behind, at .1, at .2);
-            within = omega (arith, at .1);
-            fits = omega (arith, now-at .fits, at .0);
-            roomy = omega (arith, now-at .roomy, at .0, at .1, at .2);
-            ready-long = now-at .ready-long;
-            pending-long = as-long ∙ now-at .pending-long;
-          }, goes (Ok None) d)
+          let at = placed ends now ys′ zs p q (Ok None) d in (
+            record {
+              behind = omega (arith, now-at .behind, at .1, at .2);
+              within = omega (arith, at .1);
+              fits = omega (arith, now-at .fits, at .0);
+              roomy = omega (arith, now-at .roomy, at .0, at .1, at .2);
+              ready-long = now-at .ready-long;
+              pending-long = as-long ∙ now-at .pending-long;
+            },
+            goes (Ok None) d,
+          )
 
       -- it failed
       pub step-failed : (f : Failure K E) → Turned ends now ys′ p (Err f) zs q → Ends keys ends now capacity end xs ys xs′ zs p₀ q (Err (error.Failed f))
@@ -271,18 +273,19 @@ module _ {K S Q A E W : Type 0} (keys : Sameness K) (ends : Endpoints S Q A E W)
             let a : q .ready ≡ p .ready = ap (λ z. z .ready) same-places in
             let b : q .read ≡ p .read = ap (λ z. z .read) same-places in
             let c : q .write ≡ p .write = ap (λ z. z .write) same-places in
-            let yes-place : has-place keys capacity (take (q .ready) xs′) (e .key) ≡ true = t .place in
-            (record {
-              behind = omega (arith, now-at .behind);
-              within = omega arith;
-              fits = t .within;
-              roomy = omega (arith, now-at .roomy, t .most);
-              ready-long = as-wide ∙ now-at .ready-long;
-              pending-long = as-long ∙ now-at .pending-long;
-            },
-            ap (λ z. ended (pass keys ends now capacity z (take (q .write) zs) (drop (q .read + 1) (take end zs)))) (t .list)
-            ∙ sym (cond-true (has-place keys capacity (take (q .ready) xs′) (e .key)) _ _ yes-place)
-            ∙ goes (Ok (Some e)) d)
+            let yes-place : has-place keys capacity (take (q .ready) xs′) (e .key) ≡ true = t .place in (
+              record {
+                behind = omega (arith, now-at .behind);
+                within = omega arith;
+                fits = t .within;
+                roomy = omega (arith, now-at .roomy, t .most);
+                ready-long = as-wide ∙ now-at .ready-long;
+                pending-long = as-long ∙ now-at .pending-long;
+              },
+              ap (λ z. ended (pass keys ends now capacity z (take (q .write) zs) (drop (q .read + 1) (take end zs)))) (t .list)
+                  ∙ sym (cond-true (has-place keys capacity (take (q .ready) xs′) (e .key)) _ _ yes-place)
+                  ∙ goes (Ok (Some e)) d,
+            )
 
         -- it had no place among them
         pub step-refused : (x : PendingError K E) → Refused keys capacity e xs′ (q .ready) ws x → Ends keys ends now capacity end xs ys ws zs p₀ q (Err x)
@@ -301,8 +304,8 @@ module _ {K S Q A E W : Type 0} (keys : Sameness K) (ends : Endpoints S Q A E W)
               };
               done = λ h. let z : _≡_ {A = ℕ} 0 1 = cc in absurd (omega arith);
               same =
-                sym (goes (Ok (Some e)) d)
-                ∙ cond-false (has-place keys capacity (take (q .ready) xs′) (e .key)) _ _ (t .place)
-                ∙ ap (stopped xs′ zs q) (sym (t .fault))
-                ∙ ap (λ z. stopped z zs q x) (sym (t .same));
+                  sym (goes (Ok (Some e)) d)
+                  ∙ cond-false (has-place keys capacity (take (q .ready) xs′) (e .key)) _ _ (t .place)
+                  ∙ ap (stopped xs′ zs q) (sym (t .fault))
+                  ∙ ap (λ z. stopped z zs q x) (sym (t .same));
             }

@@ -26,9 +26,9 @@ use Rattle.cache_model.specs.declared.error.CallRefusal.the-variants.{NotReady}
 use Rattle.cache_model.specs.Answers.{as-call, by-readiness}
 use Rattle.cache_model.specs.Entries.{holding, has-serial, set-aside, any-live, cancel, ready-place}
 use Rattle.cache_model.specs.Cache.{Cache, Asked, with-lists, load, evict, check, call, finish, finish-in}
-use Rattle.ready_cache.specs.Asking.{told}
+use Rattle.entries.specs.Asking.{told}
 use Rattle.ready_cache.proofs.Views.{wrote}
-use Rattle.ready_cache.proofs.Lists.{finish-is}
+use Rattle.entries.proofs.Lists.{finish-is}
 
 by-some-map : {A B C : Type 0} (h : B → C) (o : Option A) (b : B) (f : A → B) → h (by-some o b f) ≡ by-some o (h b) (λ a. h (f a))
 by-some-map h None b f = refl

@@ -5,8 +5,8 @@ use Rattle.std.specs.Options.{isSome}
 use Rattle.std.proofs.shelf.Lists.{append-nil}
 use Rattle.lists.proofs.Places.{not-found}
 use Rattle.cache_model.specs.Entries.{cancelled, live-of}
-use Rattle.ready_cache.proofs.Lists.{change-front, any-live-is, cancel-is}
-use Rattle.ready_cache.proofs.entries.cancel.Needs as need
+use Rattle.entries.proofs.Lists.{change-front, any-live-is, cancel-is}
+use Rattle.entries.proofs.cancel.Needs as need
 
 pub returns-in-Some : need.returns-in-Some
 returns-in-Some g c =
@@ -18,8 +18,8 @@ returns-in-Some g c =
     record {
       answer = ap isSome place ∙ any-live-is m k (take n xs);
       after =
-        change-front (live-of m k) cancelled [] xs n (c .in-Some .i) (c .index-items-i .result) (c .in-Some .ensures tt .within .0) (c .in-Some .ensures tt .within .1) place
-        ∙ sym (cancel-is m k (take n xs));
+          change-front (live-of m k) cancelled [] xs n (c .in-Some .i) (c .index-items-i .result) (c .in-Some .ensures tt .within .0) (c .in-Some .ensures tt .within .1) place
+          ∙ sym (cancel-is m k (take n xs));
     }
 
 pub returns-in-None : need.returns-in-None

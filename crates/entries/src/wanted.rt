@@ -1,7 +1,6 @@
 // Tests on entries, for searches.
 ghost use mathlib.Core.Path.{_≡_};
 ghost use Rattle.cache_model.specs.Entries.{has-key, live-of, has-serial};
-
 use cache_model::entry::Entry;
 use lists::Test;
 use service::Key;
@@ -36,7 +35,8 @@ pub impl<K: Key, S: Copy> Test<Entry<K, S>> for LiveOf<K> as TestLiveOf {
     ghost holds = { λ t e. live-of (K·Key .sameness) (t .key) e };
 
     fn passes(&self, item: &Entry<K, S>) -> bool {
-        self.key.same(&item.key) && !item.cancelled
+        let same = self.key.same(&item.key);
+        same && !item.cancelled
     }
 }
 

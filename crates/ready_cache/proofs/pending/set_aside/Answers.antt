@@ -5,8 +5,8 @@ use native.Mathlib.Omega.{arith}
 use lib.ListN.{take}
 use Rattle.std.specs.Options.{isSome}
 use Rattle.cache_model.specs.Entries.{entry, any-live}
-use Rattle.ready_cache.proofs.Lists.{any-live-is}
-use Rattle.ready_cache.proofs.entries.set_aside.Needs as need
+use Rattle.entries.proofs.Lists.{any-live-is}
+use Rattle.ready_cache.proofs.pending.set_aside.Needs as need
 
 pub returns-in-Some : need.returns-in-Some
 returns-in-Some g c =

@@ -5,8 +5,8 @@ use Rattle.std.specs.Options.{isSome}
 use Rattle.std.proofs.shelf.Lists.{append-nil}
 use Rattle.lists.proofs.Places.{not-found}
 use Rattle.cache_model.specs.Entries.{holding, has-serial}
-use Rattle.ready_cache.proofs.Lists.{change-front, finish-is}
-use Rattle.ready_cache.proofs.entries.finish.Needs as need
+use Rattle.entries.proofs.Lists.{change-front, finish-is}
+use Rattle.entries.proofs.finish.Needs as need
 
 pub returns-in-Some : need.returns-in-Some
 returns-in-Some g c =
@@ -19,9 +19,9 @@ returns-in-Some g c =
     record {
       answer = ap isSome place;
       after =
-        ap (λ s. take n (set xs i (holding e s))) (c .finish .ensures)
-        ∙ change-front (has-serial (c .args .serial)) (λ z. holding z (m .finished (z .endpoint) (c .args .sent) (c .args .at))) [] xs n i (c .index-items-i .result) (c .in-Some .ensures tt .within .0) (c .in-Some .ensures tt .within .1) place
-        ∙ sym (finish-is m (c .args .at) (take n xs) (c .args .serial) (c .args .sent));
+          ap (λ s. take n (set xs i (holding e s))) (c .finish .ensures)
+          ∙ change-front (has-serial (c .args .serial)) (λ z. holding z (m .finished (z .endpoint) (c .args .sent) (c .args .at))) [] xs n i (c .index-items-i .result) (c .in-Some .ensures tt .within .0) (c .in-Some .ensures tt .within .1) place
+          ∙ sym (finish-is m (c .args .at) (take n xs) (c .args .serial) (c .args .sent));
     }
 
 pub returns-in-None : need.returns-in-None
@@ -32,7 +32,7 @@ returns-in-None g c =
     record {
       answer = ap isSome place;
       after =
-        sym (finish-is m (c .args .at) xs (c .args .serial) (c .args .sent)
+          sym (finish-is m (c .args .at) xs (c .args .serial) (c .args .sent)
           ∙ not-found (has-serial (c .args .serial)) (λ z. holding z (m .finished (z .endpoint) (c .args .sent) (c .args .at))) [] xs (sym place)
           ∙ append-nil xs);
     }
