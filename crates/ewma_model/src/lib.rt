@@ -1,0 +1,1 @@
+// Peak-EWMA as a definition over rounded operations, with its laws: no code. See specs/ and proofs/.

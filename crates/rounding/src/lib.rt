@@ -1,0 +1,1 @@
+// What rounding does to numbers from 0 up; there is no code here.
