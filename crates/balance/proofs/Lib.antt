@@ -1,0 +1,4 @@
+mod Reading
+mod Searching
+mod Polling
+mod Calling

@@ -5,6 +5,11 @@ ghost use Rattle.balance_model.specs.Balance.{new-balancer};
 ghost use Rattle.balance.specs.View.{view};
 
 pub mod balance;
+mod call;
+pub mod completion;
+mod feed;
+mod poll;
+mod search;
 
 use balance::Balance;
 use rng::Rng;

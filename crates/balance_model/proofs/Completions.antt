@@ -182,7 +182,7 @@ module _ {K S Q A E W D F R : Type 0} (m : Meanings K S Q A E W D F R) (now tick
     }
 
   pub complete-holds : (b : Balancer D R) (c : Cache K S) (d : Docket) (h : History K S A E F) → Holds m b c d h →
-      let k = complete m now c d ticket in
+      let k = complete (m .endpoints) now c d ticket in
       Holds m b (k .cache) (k .docket) (completed now ticket (k .answer) ∷ h)
   complete-holds b c d h o =
       some-case (λ (x : Outcome (Option DocketRecord) Docket). Goal (told x)) (ticket-place d ticket) _ _
@@ -199,4 +199,4 @@ module _ {K S Q A E W D F R : Type 0} (m : Meanings K S Q A E W D F R) (now tick
       told : Outcome (Option DocketRecord) Docket → Complete-outcome K S
       told gone = by-some (gone .answer)
           (record { answer = Err UnknownTicket; cache = c; docket = d })
-          (λ r. let told = finish (m .endpoints) now c (r .serial) (r .sent) in record { answer = Ok (held-or-gone m now (told .answer)); cache = told .after; docket = gone .after })
+          (λ r. let told = finish (m .endpoints) now c (r .serial) (r .sent) in record { answer = Ok (held-or-gone (told .answer)); cache = told .after; docket = gone .after })

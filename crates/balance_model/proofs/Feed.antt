@@ -1,4 +1,5 @@
 -- What reading the feed does: workers come in under new serials, each with its count.
+use Rattle.model.specs.Options.{by-result}
 use Rattle.model.specs.Lists.{at}
 use Rattle.model.specs.Sums.{one-if}
 use Rattle.model.proofs.Cases.{result-case}
@@ -11,12 +12,12 @@ use Rattle.cache_model.proofs.Steps.{sum-held, Single, Keeps, evict-keeps}
 use Rattle.cache_model.proofs.Serials.{is-serial, is-pair, pair-serial}
 use Rattle.cache_model.proofs.Pushes.{push-taken, push-refused, pushed-sum, pushed-single}
 use Rattle.balance_model.specs.Meanings.{Meanings}
-use Rattle.balance_model.specs.Balance.{Pushed, Fed, pushing-first, read-feed, still-selected}
+use Rattle.balance_model.specs.Balance.{Pushed, Fed, pushing-first, read-feed, still-selected, Read, stopping}
 use Rattle.balance_model.specs.History.{brought-in}
 use Rattle.balance_model.proofs.Cases.{discovered-case}
 use mathlib.Core.Path.{_≡_, refl, sym, ap, subst}
 use mathlib.Core.Bool.{Bool, true, false, cond, _&&_}
-use mathlib.Core.List.{[]}
+use mathlib.Core.List.{[], _∷_}
 use mathlib.Core.Logic.{_⊎_, inl, inr}
 use Prim.Native.Nat.{ℕ, zero, suc, _+_, _≤_, _<_}
 use native.Mathlib.Omega.{arith}
@@ -65,7 +66,7 @@ module _ {K S Q A E W : Type 0} (keys : Sameness K) (ends : Endpoints S Q A E W)
     brings = r .brings;
   }
 
-  pushing-right : {D F : Type 0} (c : Cache K S) (k : K) (s : S) (fed : Fed K S D F) → Fed-right (taken-in keys c k s) fed → Fed-right c (pushing-first (record { serial = c .next; worker = s }) fed)
+  pushing-right : {D F : Type 0} (c : Cache K S) (k : K) (s : S) (fed : Fed K S D F) → Fed-right (taken-in keys c k s) fed → Fed-right c (pushing-first (record { serial = c .next; worker = s } ∷ []) fed)
   pushing-right c k s fed r = record {
     sums = λ f. let a = r .sums f in let b = pushed-sum keys ends f c k s in omega arith;
     single = λ h. r .single (pushed-single keys ends c k s h);
@@ -103,19 +104,20 @@ module _ {K S Q A E W D F R : Type 0} (m : Meanings K S Q A E W D F R) (now : �
   read-feed-right zero d selected c = stays (m .keys) (m .endpoints) c _ refl refl
   read-feed-right (suc budget) d selected c =
       let left = m .feeds .discovered d now in
-      let Goal : Fed K S D F → Type 0 = Fed-right (m .keys) (m .endpoints) c in
+      let going : Read K S D F → Fed K S D F = λ r. by-result (r .answer) (λ more. cond more (pushing-first (r .pushes) (read-feed m now budget (r .feed) (r .selected) (r .cache))) (stopping r None)) (λ e. stopping r (Some e)) in
+      let Goal : Read K S D F → Type 0 = λ r. Fed-right (m .keys) (m .endpoints) c (going r) in
       discovered-case Goal (left .answer) _ _ _ _
       (stays (m .keys) (m .endpoints) c _ refl refl)
       (λ x. stays (m .keys) (m .endpoints) c _ refl refl)
       (λ k s.
-      let p = push (m .keys) c k s in
-      let more = read-feed m now budget (left .after) selected (p .after) in
-      let ih = read-feed-right budget (left .after) selected (p .after) in
-      result-case Goal (p .answer) _ _
-      (λ serial e.
-      let t = push-taken (m .keys) (m .endpoints) c k s serial e in
-      subst (λ (x : ℕ). Goal (pushing-first (record { serial = x; worker = s }) more)) (sym (t .0))
-      (pushing-right (m .keys) (m .endpoints) c k s more (subst (λ (x : Cache K S). Fed-right (m .keys) (m .endpoints) x more) (t .1) ih)))
-      (λ e refusal. stays (m .keys) (m .endpoints) c _ (push-refused (m .keys) (m .endpoints) c k s e refusal) refl))
+        let p = push (m .keys) c k s in
+        let more = read-feed m now budget (left .after) selected (p .after) in
+        let ih = read-feed-right budget (left .after) selected (p .after) in
+        result-case Goal (p .answer) _ _
+        (λ serial e.
+          let t = push-taken (m .keys) (m .endpoints) c k s serial e in
+          subst (λ (x : ℕ). Fed-right (m .keys) (m .endpoints) c (pushing-first (record { serial = x; worker = s } ∷ []) more)) (sym (t .0))
+          (pushing-right (m .keys) (m .endpoints) c k s more (subst (λ (x : Cache K S). Fed-right (m .keys) (m .endpoints) x more) (t .1) ih)))
+        (λ e refusal. stays (m .keys) (m .endpoints) c _ (push-refused (m .keys) (m .endpoints) c k s e refusal) refl))
       (λ k. keeps-then (m .keys) (m .endpoints) c (evict (m .keys) c k .after) _ (evict-keeps (m .keys) (m .endpoints) c k)
-      (read-feed-right budget (left .after) (still-selected selected (length (c .ready)) (ready-place (m .keys) k (c .ready))) (evict (m .keys) c k .after)))
+        (read-feed-right budget (left .after) (still-selected selected (length (c .ready)) (ready-place (m .keys) k (c .ready))) (evict (m .keys) c k .after)))

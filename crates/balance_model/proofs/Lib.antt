@@ -10,3 +10,4 @@ pub mod Completions
 pub mod Taken
 pub mod Promised
 pub mod Loops
+pub mod Dockets

@@ -1,9 +1,12 @@
 -- One turn of each loop of a poll, as its model has it.
+use Rattle.model.specs.Outcome.{Outcome}
+use Rattle.model.specs.Lists.{at}
 use Rattle.model.proofs.Cases.{cond-case, some-case}
 use Rattle.sampling.specs.Pairs.{first-place}
 use Rattle.sampling.proofs.Floyd.{two-below}
 use Rattle.rng.specs.Words.{nth-word}
 use Rattle.service.specs.declared.poll.Poll.{Poll}
+use Rattle.service.specs.Meaning.{Sameness, Endpoints}
 use Rattle.cache_model.specs.Answers.{by-check, by-pass}
 use Rattle.cache_model.specs.Cache.{Cache, Asked, poll-pending, check, load, poll-pending}
 use Rattle.balance_model.specs.Meanings.{Meanings}
@@ -17,6 +20,7 @@ use native.Mathlib.Omega.{arith}
 use native.Mathlib.Nat.{mod-lt}
 use lib.Dec.{ltb}
 use lib.ListN.{length}
+use Rattle.std.specs.declared.option.Option.{Option}
 use Rattle.std.specs.declared.option.Option.the-variants.{Some, None}
 use Rattle.std.specs.declared.result.Result.{Result}
 use Rattle.std.specs.declared.result.Result.the-variants.{Ok, Err}
@@ -26,52 +30,53 @@ use Rattle.cache_model.specs.declared.error.PendingError.{PendingError}
 use Rattle.cache_model.proofs.Shrinks.{poll-pending-falls, check-falls, load-length}
 use Rattle.cache_model.specs.declared.error.PendingError.the-variants as pending
 
-module _ {K S Q A E W D F R : Type 0} (m : Meanings K S Q A E W D F R) (now : ℕ) where
+module _ {K S Q A E W : Type 0} (keys : Sameness K) (ends : Endpoints S Q A E W) (now : ℕ) where
   -- ---- the passes over pending
 
   -- what a pass leads to, where `more` follows a lost worker
   abbrev going-on : Cache K S → Settled K S E → Result (Poll (Unit {0})) (PendingError K E) → Settled K S E
   going-on c more v =
-      let p = poll-pending (m .keys) (m .endpoints) now c in
+      let p = poll-pending keys ends now c in
       by-pass v (record { cache = p .after; lost = 0; asked = p .asked; stuck = None }) (λ k. record { cache = p .after; lost = 0; asked = p .asked; stuck = Some k }) (λ _. losing-one (p .asked) more)
 
-  same-pass : (c : Cache K S) (v : Result (Poll (Unit {0})) (PendingError K E)) → poll-pending (m .keys) (m .endpoints) now c .answer ≡ v → (x y : Settled K S E) →
-    ((f : Failed K E) → poll-pending (m .keys) (m .endpoints) now c .answer ≡ Err (pending.Failed f) → x ≡ y) → going-on c x v ≡ going-on c y v
+  same-pass : (c : Cache K S) (v : Result (Poll (Unit {0})) (PendingError K E)) → poll-pending keys ends now c .answer ≡ v → (x y : Settled K S E) →
+    ((f : Failed K E) → poll-pending keys ends now c .answer ≡ Err (pending.Failed f) → x ≡ y) → going-on c x v ≡ going-on c y v
   same-pass c (Ok a) e x y f = refl
   same-pass c (Err (pending.NoPlace k)) e x y f = refl
-  same-pass c (Err (pending.Failed a)) e x y f = ap (losing-one (poll-pending (m .keys) (m .endpoints) now c .asked)) (f a e)
+  same-pass c (Err (pending.Failed a)) e x y f = ap (losing-one (poll-pending keys ends now c .asked)) (f a e)
 
   -- fuel above the pending length makes no difference
-  settle-fuel : (n k : ℕ) (c : Cache K S) → length (c .pending) < n → length (c .pending) < k → settle m now n c ≡ settle m now k c
+  settle-fuel : (n k : ℕ) (c : Cache K S) → length (c .pending) < n → length (c .pending) < k → settle keys ends now n c ≡ settle keys ends now k c
   settle-fuel zero k c a b = absurd (omega arith)
   settle-fuel (suc n) zero c a b = absurd (omega arith)
   settle-fuel (suc n) (suc k) c a b =
-      let p = poll-pending (m .keys) (m .endpoints) now c in
-      same-pass c (p .answer) refl (settle m now n (p .after)) (settle m now k (p .after))
-      (λ x e. let f = poll-pending-falls (m .keys) (m .endpoints) now c x e in settle-fuel n k (p .after) (omega arith) (omega arith))
+      let p = poll-pending keys ends now c in
+      same-pass c (p .answer) refl (settle keys ends now n (p .after)) (settle keys ends now k (p .after))
+      (λ x e. let f = poll-pending-falls keys ends now c x e in settle-fuel n k (p .after) (omega arith) (omega arith))
 
   -- a pass that lost a worker is followed by another
-  pub settle-lost : (c : Cache K S) (x : Failed K E) → poll-pending (m .keys) (m .endpoints) now c .answer ≡ Err (pending.Failed x) →
-    settle-all m now c ≡ losing-one (poll-pending (m .keys) (m .endpoints) now c .asked) (settle-all m now (poll-pending (m .keys) (m .endpoints) now c .after))
+  pub settle-lost : (c : Cache K S) (x : Failed K E) → poll-pending keys ends now c .answer ≡ Err (pending.Failed x) →
+    settle-all keys ends now c ≡ losing-one (poll-pending keys ends now c .asked) (settle-all keys ends now (poll-pending keys ends now c .after))
   settle-lost c x e =
-      let p = poll-pending (m .keys) (m .endpoints) now c in
-      let f = poll-pending-falls (m .keys) (m .endpoints) now c x e in
-      ap (going-on c (settle m now (length (c .pending)) (p .after))) e
+      let p = poll-pending keys ends now c in
+      let f = poll-pending-falls keys ends now c x e in
+      ap (going-on c (settle keys ends now (length (c .pending)) (p .after))) e
       ∙ ap (losing-one (p .asked)) (settle-fuel (length (c .pending)) (suc (length (p .after .pending))) (p .after) (omega arith) (omega arith))
 
   -- a pass that reached the end is the last, and so is one that found no place
-  pub settle-end : (c : Cache K S) (x : Poll (Unit {0})) → poll-pending (m .keys) (m .endpoints) now c .answer ≡ Ok x →
-    settle-all m now c ≡ record { cache = poll-pending (m .keys) (m .endpoints) now c .after; lost = 0; asked = poll-pending (m .keys) (m .endpoints) now c .asked; stuck = None }
+  pub settle-end : (c : Cache K S) (x : Poll (Unit {0})) → poll-pending keys ends now c .answer ≡ Ok x →
+    settle-all keys ends now c ≡ record { cache = poll-pending keys ends now c .after; lost = 0; asked = poll-pending keys ends now c .asked; stuck = None }
   settle-end c x e =
-      let p = poll-pending (m .keys) (m .endpoints) now c in
-      ap (going-on c (settle m now (length (c .pending)) (p .after))) e
+      let p = poll-pending keys ends now c in
+      ap (going-on c (settle keys ends now (length (c .pending)) (p .after))) e
 
-  pub settle-stuck : (c : Cache K S) (k : K) → poll-pending (m .keys) (m .endpoints) now c .answer ≡ Err (pending.NoPlace k) →
-    settle-all m now c ≡ record { cache = poll-pending (m .keys) (m .endpoints) now c .after; lost = 0; asked = poll-pending (m .keys) (m .endpoints) now c .asked; stuck = Some k }
+  pub settle-stuck : (c : Cache K S) (k : K) → poll-pending keys ends now c .answer ≡ Err (pending.NoPlace k) →
+    settle-all keys ends now c ≡ record { cache = poll-pending keys ends now c .after; lost = 0; asked = poll-pending keys ends now c .asked; stuck = Some k }
   settle-stuck c k e =
-      let p = poll-pending (m .keys) (m .endpoints) now c in
-      ap (going-on c (settle m now (length (c .pending)) (p .after))) e
+      let p = poll-pending keys ends now c in
+      ap (going-on c (settle keys ends now (length (c .pending)) (p .after))) e
 
+module _ {K S Q A E W D F R : Type 0} (m : Meanings K S Q A E W D F R) (now : ℕ) where
   -- ---- the search for a ready worker
 
   weigh-length : (c : Cache K S) (a b : ℕ) → length (weigh (m .endpoints) (m .weights) now c a b .cache .ready) ≡ length (c .ready)
@@ -103,6 +108,19 @@ module _ {K S Q A E W D F R : Type 0} (m : Meanings K S Q A E W D F R) (now : �
         let h = ltb-false n 2 e in
         let two = two-below n x y (mod-lt _ (omega arith)) (mod-lt _ (omega arith)) in
         record { same = weigh-length c (first-place n x y) y; below = λ _. weigh-below c (first-place n x y) y n (two .first) (two .second) })
+
+  load-pending : (c : Cache K S) (i : ℕ) → load (m .endpoints) now c i .after .pending ≡ c .pending
+  load-pending c i = some-case (λ (o : Outcome (Option W) (Cache K S)). o .after .pending ≡ c .pending) (at (c .ready) i) _ _ (λ _. refl) (λ e _. refl)
+
+  -- and it leaves the pending workers
+  pub draw-pending : (c : Cache K S) (r : R) → length (draw (m .endpoints) (m .weights) now (m .words) c r .cache .pending) ≡ length (c .pending)
+  draw-pending c r =
+      let n : ℕ = length (c .ready) in
+      let x : ℕ = nth-word (m .words) r 0 % (n - 1) in
+      let y : ℕ = nth-word (m .words) r 1 % n in
+      cond-case (λ (d : Drawn K S R). length (d .cache .pending) ≡ length (c .pending)) (ltb n 2) _ _
+      (λ _. refl)
+      (λ _. ap length (load-pending (load (m .endpoints) now c (first-place n x y) .after) y ∙ load-pending c (first-place n x y)))
 
   -- where the place is ready or not, the search goes on over what is left, which is one less
   try-seek : (fuel i : ℕ) (c : Cache K S) (r : R) → i < length (c .ready) → suc fuel ≡ length (c .ready) → try m now (seek m now fuel) i c r ≡ try m now (seek-all m now) i c r

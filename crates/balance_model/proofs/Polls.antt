@@ -13,7 +13,7 @@ use Rattle.cache_model.proofs.Serials.{is-serial, is-pair, pair-serial}
 use Rattle.balance_model.specs.Answers.{named, ready-worker}
 use Rattle.balance_model.specs.Meanings.{Meanings}
 use Rattle.balance_model.specs.Docket.{Docket}
-use Rattle.balance_model.specs.Balance.{Balancer, Fed, read-feed, Settled, settle, Sought, select, Poll-outcome, poll, ended, poll-answer}
+use Rattle.balance_model.specs.Balance.{Balancer, Fed, read-feed, Settled, settle, Sought, select, Poll-outcome, poll, ended, serial-at}
 use Rattle.balance_model.specs.History.{History, polled, brought-in, brought}
 use Rattle.balance_model.specs.Promise.{Count-right, Draw-fair}
 use Rattle.balance_model.proofs.Search.{settle-keeps, select-keeps}
@@ -68,7 +68,7 @@ module _ {K S Q A E W D F R : Type 0} (m : Meanings K S Q A E W D F R) (now : �
   poll-right b c =
       let fed = read-feed m now (b .budget) (b .feed) (b .selected) c in
       let fuel : ℕ = suc (length (fed .cache .pending)) in
-      let settled = settle m now fuel (fed .cache) in
+      let settled = settle (m .keys) (m .endpoints) now fuel (fed .cache) in
       let sought = select m now (fed .selected) (settled .cache) (b .words) in
       let r = read-feed-right m now (b .budget) (b .feed) (b .selected) c in
       let one = settle-keeps m now fuel (fed .cache) in
@@ -88,11 +88,9 @@ module _ {K S Q A E W D F R : Type 0} (m : Meanings K S Q A E W D F R) (now : �
         nobody = nobody-at (sought .place);
       }
         where
-          lost : ℕ
-          lost = settled .lost + sought .lost
 
           found-at : (o : Option ℕ) → ((i : ℕ) → o ≡ Some i → Grants (m .endpoints) now (sought .cache .ready) (sought .asked) i) → by-some o false (λ _. true) ≡ true →
-              (i : ℕ) × (o ≡ Some i) × (g : Grants (m .endpoints) now (sought .cache .ready) (settled .asked ++ sought .asked) i) × (ready-worker (poll-answer m now sought lost o .worker) ≡ Some (g .entry .serial))
+              (i : ℕ) × (o ≡ Some i) × (g : Grants (m .endpoints) now (sought .cache .ready) (settled .asked ++ sought .asked) i) × (ready-worker (serial-at (sought .cache) o) ≡ Some (g .entry .serial))
           found-at None f e = false-true e
           found-at (Some i) f e =
               let g = f i refl in (
@@ -102,7 +100,7 @@ module _ {K S Q A E W D F R : Type 0} (m : Meanings K S Q A E W D F R) (now : �
                 ap (λ (o : Option (Entry K S)). ready-worker (by-some {B = Poll ℕ} o Pending (λ x. Ready (x .serial)))) (g .stands),
               )
 
-          nobody-at : (o : Option ℕ) → by-some o false (λ _. true) ≡ false → ready-worker (poll-answer m now sought lost o .worker) ≡ None
+          nobody-at : (o : Option ℕ) → by-some o false (λ _. true) ≡ false → ready-worker (serial-at (sought .cache) o) ≡ None
           nobody-at None e = refl
           nobody-at (Some i) e = true-false e
 

@@ -27,7 +27,7 @@ module _ {K S Q A E W D F R : Type 0} (m : Meanings K S Q A E W D F R) (now : �
   abbrev Kept : Cache K S → Cache K S → Type 0
   Kept = Keeps (m .keys) (m .endpoints)
 
-  pub settle-keeps : (fuel : ℕ) (c : Cache K S) → Kept c (settle m now fuel c .cache)
+  pub settle-keeps : (fuel : ℕ) (c : Cache K S) → Kept c (settle (m .keys) (m .endpoints) now fuel c .cache)
   settle-keeps zero c = keeps-refl (m .keys) (m .endpoints) c
   settle-keeps (suc fuel) c =
       let p = poll-pending (m .keys) (m .endpoints) now c in

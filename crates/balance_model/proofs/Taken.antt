@@ -60,7 +60,7 @@ module _ {K S Q A E W D F R : Type 0} (m : Meanings K S Q A E W D F R) where
   poll-took : (now : ℕ) (b : Balancer D R) (c : Cache K S) → Took (m .words) (b .words) (poll m now b c .log .draws) (poll m now b c .balancer .words)
   poll-took now b c =
       let fed = read-feed m now (b .budget) (b .feed) (b .selected) c in
-      let settled = settle m now (suc (length (fed .cache .pending))) (fed .cache) in
+      let settled = settle (m .keys) (m .endpoints) now (suc (length (fed .cache .pending))) (fed .cache) in
       let sought = select m now (fed .selected) (settled .cache) (b .words) in
       let Goal : Poll-outcome K S E D F R → Type 0 = λ p. Took (m .words) (b .words) (p .log .draws) (p .balancer .words) in
       let one = select-took now (fed .selected) (settled .cache) (b .words) in

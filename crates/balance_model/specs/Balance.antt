@@ -11,6 +11,9 @@ use Rattle.std.specs.declared.result.Result.the-variants.{Ok, Err}
 use Rattle.model.specs.Outcome.{Outcome, outcome}
 use Rattle.model.specs.Options.{by-some, by-result}
 use Rattle.model.specs.Lists.{at}
+use Rattle.service.specs.Meaning.{Sameness, Endpoints}
+use Rattle.discover.specs.Feeds.{Feeds}
+use Rattle.service.specs.declared.poll.Poll.{Poll}
 use Rattle.service.specs.declared.poll.Poll.the-variants.{Ready, Pending}
 use Rattle.discover.specs.declared.discovered.Discovered.{Discovered}
 use Rattle.discover.specs.declared.discovered.Discovered.the-variants as feed
@@ -96,6 +99,35 @@ still-selected selected n None = selected
 still-selected None n (Some gone) = None
 still-selected (Some i) n (Some gone) = cond (eqb i gone || eqb (suc i) n) None (Some i)
 
+-- one answer of the feed: whether to go on, or what ends the poll; and what is left. A push has its log.
+pub record Read (K S D F : Type 0) : Type 0 where
+  pub answer : Result Bool (PollError K F)
+  pub feed : D
+  pub selected : Option ℕ
+  pub cache : Cache K S
+  pub pushes : List (Pushed S)
+
+module _ {K S D F : Type 0} (keys : Sameness K) (feeds : Feeds D K S F) (now : ℕ) where
+  -- an Insert pushes, a Remove evicts; a Pending, an End, a fault and a refused push end the reading
+  abbrev pub read-one : D → Option ℕ → Cache K S → Read K S D F
+  read-one d selected c =
+      let left = feeds .discovered d now in
+      by-discovered (left .answer)
+      (record { answer = Ok false; feed = left .after; selected = selected; cache = c; pushes = [] })
+      (λ f. record { answer = Err (Discover f); feed = left .after; selected = selected; cache = c; pushes = [] })
+      (λ k s.
+        let p = push keys c k s in
+        by-result (p .answer)
+        (λ serial. record { answer = Ok true; feed = left .after; selected = selected; cache = p .after; pushes = record { serial = serial; worker = s } ∷ [] })
+        (λ e. record { answer = Err (Push e); feed = left .after; selected = selected; cache = p .after; pushes = [] }))
+      (λ k. record {
+        answer = Ok true;
+        feed = left .after;
+        selected = still-selected selected (length (c .ready)) (ready-place keys k (c .ready));
+        cache = evict keys c k .after;
+        pushes = [];
+      })
+
 -- what reading the feed leaves; `fault` is set where the poll ends there
 pub record Fed (K S D F : Type 0) : Type 0 where
   pub feed : D
@@ -104,8 +136,12 @@ pub record Fed (K S D F : Type 0) : Type 0 where
   pub pushes : List (Pushed S)
   pub fault : Option (PollError K F)
 
-abbrev pub pushing-first : {K S D F : Type 0} → Pushed S → Fed K S D F → Fed K S D F
-pushing-first p f = record { feed = f .feed; selected = f .selected; cache = f .cache; pushes = p ∷ f .pushes; fault = f .fault }
+abbrev pub pushing-first : {K S D F : Type 0} → List (Pushed S) → Fed K S D F → Fed K S D F
+pushing-first pushes f = record { feed = f .feed; selected = f .selected; cache = f .cache; pushes = pushes ++ f .pushes; fault = f .fault }
+
+-- the reading ends there, with a fault or without
+abbrev pub stopping : {K S D F : Type 0} → Read K S D F → Option (PollError K F) → Fed K S D F
+stopping r fault = record { feed = r .feed; selected = r .selected; cache = r .cache; pushes = r .pushes; fault = fault }
 
 -- ---- looking for a ready worker
 
@@ -127,6 +163,10 @@ pub record Sought (K S E R : Type 0) : Type 0 where
   pub lost : ℕ
   pub asked : List (Question E)
   pub draws : List (Draw K S)
+
+-- the serial of the ready worker at a place, if there is one
+abbrev pub serial-at : {K S : Type 0} → Cache K S → Option ℕ → Poll ℕ
+serial-at c place = by-some place Pending (λ i. by-some (at (c .ready) i) Pending (λ e. Ready (e .serial)))
 
 abbrev pub after-these : {K S E R : Type 0} → List (Question E) → List (Draw K S) → ℕ → Sought K S E R → Sought K S E R
 after-these asked draws lost s = record { place = s .place; cache = s .cache; words = s .words; lost = lost + s .lost; asked = asked ++ s .asked; draws = draws ++ s .draws }
@@ -155,27 +195,12 @@ pub record Complete-outcome (K S : Type 0) : Type 0 where
   pub cache : Cache K S
   pub docket : Docket
 
-module _ {K S Q A E W D F R : Type 0} (m : Meanings K S Q A E W D F R) (now : ℕ) where
-  -- at most `budget` feed answers, up to a Pending or an End; a fault or a refused push ends it
-  abbrev pub read-feed : ℕ → D → Option ℕ → Cache K S → Fed K S D F
-  read-feed zero d selected c = record { feed = d; selected = selected; cache = c; pushes = []; fault = None }
-  read-feed (suc budget) d selected c =
-      let left = m .feeds .discovered d now in
-      by-discovered (left .answer)
-      (record { feed = left .after; selected = selected; cache = c; pushes = []; fault = None })
-      (λ f. record { feed = left .after; selected = selected; cache = c; pushes = []; fault = Some (Discover f) })
-      (λ k s.
-      let p = push (m .keys) c k s in
-      by-result (p .answer)
-      (λ serial. pushing-first (record { serial = serial; worker = s }) (read-feed budget (left .after) selected (p .after)))
-      (λ e. record { feed = left .after; selected = selected; cache = p .after; pushes = []; fault = Some (Push e) }))
-      (λ k. read-feed budget (left .after) (still-selected selected (length (c .ready)) (ready-place (m .keys) k (c .ready))) (evict (m .keys) c k .after))
-
+module _ {K S Q A E W : Type 0} (keys : Sameness K) (ends : Endpoints S Q A E W) (now : ℕ) where
   -- `poll_pending` until it no longer fails; each worker that fails leaves, so `fuel` above the pending length never runs out
   abbrev pub settle : ℕ → Cache K S → Settled K S E
   settle zero c = record { cache = c; lost = 0; asked = []; stuck = None }
   settle (suc fuel) c =
-      let p = poll-pending (m .keys) (m .endpoints) now c in
+      let p = poll-pending keys ends now c in
       by-pass (p .answer)
       (record { cache = p .after; lost = 0; asked = p .asked; stuck = None })
       (λ k. record { cache = p .after; lost = 0; asked = p .asked; stuck = Some k })
@@ -183,6 +208,16 @@ module _ {K S Q A E W D F R : Type 0} (m : Meanings K S Q A E W D F R) (now : �
 
   abbrev pub settle-all : Cache K S → Settled K S E
   settle-all c = settle (suc (length (c .pending))) c
+
+module _ {K S Q A E W D F R : Type 0} (m : Meanings K S Q A E W D F R) (now : ℕ) where
+  -- at most `budget` feed answers, up to a Pending or an End; a fault or a refused push ends it
+  abbrev pub read-feed : ℕ → D → Option ℕ → Cache K S → Fed K S D F
+  read-feed zero d selected c = record { feed = d; selected = selected; cache = c; pushes = []; fault = None }
+  read-feed (suc budget) d selected c =
+      let r = read-one (m .keys) (m .feeds) now d selected c in
+      by-result (r .answer)
+      (λ more. cond more (pushing-first (r .pushes) (read-feed budget (r .feed) (r .selected) (r .cache))) (stopping r None))
+      (λ e. stopping r (Some e))
 
   -- the place is checked; where it is not ready, the search goes on by `more`
   abbrev pub try : (Cache K S → R → Sought K S E R) → ℕ → Cache K S → R → Sought K S E R
@@ -207,15 +242,10 @@ module _ {K S Q A E W D F R : Type 0} (m : Meanings K S Q A E W D F R) (now : �
   abbrev pub select : Option ℕ → Cache K S → R → Sought K S E R
   select selected c r = by-some selected (seek-all c r) (λ i. try seek-all i c r)
 
-  -- the answer where the search found a place: the serial there
-  abbrev pub poll-answer : Sought K S E R → ℕ → Option ℕ → Polled
-  poll-answer s lost place =
-      record { worker = by-some place Pending (λ i. by-some (at (s .cache .ready) i) Pending (λ e. Ready (e .serial))); lost = lost }
-
   -- a poll that came to its end is fresh if it found a place
   abbrev pub ended : Balancer D R → Fed K S D F → Settled K S E → Sought K S E R → Poll-outcome K S E D F R
   ended b fed settled sought = record {
-    answer = Ok (poll-answer sought (settled .lost + sought .lost) (sought .place));
+    answer = Ok (record { worker = serial-at (sought .cache) (sought .place); lost = settled .lost + sought .lost });
     balancer = record { feed = fed .feed; words = sought .words; budget = b .budget; selected = sought .place; fresh = by-some (sought .place) false (λ _. true) };
     cache = sought .cache;
     log = record { pushes = fed .pushes; asked = settled .asked ++ sought .asked; draws = sought .draws };
@@ -233,7 +263,7 @@ module _ {K S Q A E W D F R : Type 0} (m : Meanings K S Q A E W D F R) (now : �
   abbrev pub poll : Balancer D R → Cache K S → Poll-outcome K S E D F R
   poll b c =
       let fed = read-feed (b .budget) (b .feed) (b .selected) c in
-      let settled = settle-all (fed .cache) in
+      let settled = settle-all (m .keys) (m .endpoints) now (fed .cache) in
       by-some (fed .fault)
       (by-some (settled .stuck)
       (ended b fed settled (select (fed .selected) (settled .cache) (b .words)))
@@ -268,9 +298,10 @@ module _ {K S Q A E W D F R : Type 0} (m : Meanings K S Q A E W D F R) (now : �
       (by-some (st .balancer .selected) (refused st (error.Cache NotReady)) (call-at st q))
       (λ r. refused st (error.Docket r)))
 
-  abbrev pub held-or-gone : Bool → Completion
-  held-or-gone held = cond held Held Gone
+abbrev pub held-or-gone : Bool → Completion
+held-or-gone held = cond held Held Gone
 
+module _ {K S Q A E W : Type 0} (ends : Endpoints S Q A E W) (now : ℕ) where
   -- `complete` takes the ticket's record from the docket, and tells the worker with its serial
   abbrev pub complete : Cache K S → Docket → ℕ → Complete-outcome K S
   complete c d ticket =
@@ -278,5 +309,5 @@ module _ {K S Q A E W D F R : Type 0} (m : Meanings K S Q A E W D F R) (now : �
       by-some (gone .answer)
       (record { answer = Err UnknownTicket; cache = c; docket = d })
       (λ r.
-      let told = finish (m .endpoints) now c (r .serial) (r .sent) in
+      let told = finish ends now c (r .serial) (r .sent) in
       record { answer = Ok (held-or-gone (told .answer)); cache = told .after; docket = gone .after })

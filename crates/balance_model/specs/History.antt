@@ -66,7 +66,7 @@ module _ {K S Q A E W D F R : Type 0} (m : Meanings K S Q A E W D F R) where
       let c = call m at (run .state) request in
       record { state = c .after; history = called at (c .answer) ∷ run .history }
   apply run (pick.Complete ticket at) =
-      let c = complete m at (run .state .cache) (run .state .docket) ticket in
+      let c = complete (m .endpoints) at (run .state .cache) (run .state .docket) ticket in
       record {
         state = record { balancer = run .state .balancer; cache = c .cache; docket = c .docket };
         history = completed at ticket (c .answer) ∷ run .history;

@@ -11,12 +11,14 @@ use Rattle.std.specs.declared.result.Result.the-variants.{Ok, Err}
 use Rattle.std.proofs.shelf.Tests.{ltb-true, not-false}
 use Rattle.model.specs.Outcome.{Outcome}
 use Rattle.model.specs.Sums.{one-if}
-use Rattle.model.proofs.Cases.{cond-case}
+use Rattle.model.specs.Lists.{at}
+use Rattle.model.proofs.Cases.{cond-case, some-case}
 use Rattle.model.proofs.Totals.{total, total-append}
-use Rattle.service.specs.Meaning.{Sameness, Endpoints}
+use Rattle.service.specs.Meaning.{Sameness, Endpoints, refused-by}
 use Rattle.cache_model.specs.declared.error.PushError.{PushError}
+use Rattle.cache_model.specs.declared.error.CallRefusal.{CallRefusal}
 use Rattle.cache_model.specs.Entries.{entry, cancel}
-use Rattle.cache_model.specs.Cache.{Cache, held, taken-in, push}
+use Rattle.cache_model.specs.Cache.{Cache, held, taken-in, push, call}
 use Rattle.cache_model.proofs.Keys.{one-if-le, T-of, of-live, cancel-less, cancel-all}
 use Rattle.cache_model.proofs.Steps.{of-worker, sum-held, Single, cancel-sum}
 
@@ -75,3 +77,13 @@ module _ {K S Q A E W : Type 0} (keys : Sameness K) (ends : Endpoints S Q A E W)
       (λ room. cond-case Goal (not (ltb (c .next) (2 ^ 64 - 1))) _ _
       (λ _. inl refl)
       (λ _. inr (refl, ltb-true (held c) (c .capacity) (not-false (ltb (held c) (c .capacity)) room))))
+
+  -- a refused call changes nothing
+  pub call-refused : (now : ℕ) (c : Cache K S) (i : ℕ) (q : Q) (r : CallRefusal) → call keys ends now c i q .answer ≡ Err r → call keys ends now c i q .after ≡ c
+  call-refused now c i q r =
+      let Goal : Outcome (Result A CallRefusal) (Cache K S) → Type 0 = λ l. l .answer ≡ Err r → l .after ≡ c in
+      some-case Goal (at (c .ready) i) _ _
+      (λ _ _. refl)
+      (λ e _. some-case Goal (refused-by ends (e .endpoint)) _ _
+        (λ _ x. absurd (no-ok x))
+        (λ _ _ _. refl))

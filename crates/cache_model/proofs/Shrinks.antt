@@ -1,18 +1,19 @@
 -- How the lists of a cache get shorter: a worker that fails, or is no longer ready, leaves its list.
 use Rattle.model.specs.Outcome.{Outcome}
 use Rattle.model.specs.Options.{by-some}
-use Rattle.model.specs.Lists.{at}
+use Rattle.model.specs.Lists.{at, swap-remove}
 use Rattle.model.proofs.Cases.{no-some, cond-case, some-case, some-is}
 use Rattle.model.proofs.Places.{at-some, swap-length}
 use Rattle.service.specs.Meaning.{Sameness, Endpoints}
 use Rattle.cache_model.specs.declared.entry.Entry.{Entry}
-use Rattle.cache_model.specs.Entries.{holding, promote}
-use Rattle.cache_model.specs.Cache.{Cache, Question, Asked, poll-pending, check, load, pass, Passed, asking-first, has-place, poll-pending, emptied}
+use Rattle.cache_model.specs.Answers.{by-check}
+use Rattle.cache_model.specs.Entries.{holding, set-aside, entry, promote, any-live}
+use Rattle.cache_model.specs.Cache.{Cache, Question, Asked, poll-pending, check, load, held, pass, Passed, asking-first, has-place, poll-pending, emptied}
 use Rattle.cache_model.proofs.Cases.{readiness-case}
 use mathlib.Core.Path.{_≡_, refl, ap}
 use mathlib.Core.Bool.{Bool, true}
 use mathlib.Core.List.{List, [], _∷_, _++_}
-use Prim.Native.Nat.{ℕ, suc, _+_, _<_}
+use Prim.Native.Nat.{ℕ, zero, suc, _+_, _≤_, _<_}
 use native.Mathlib.Omega.{arith}
 use lib.ListN.{length, take, drop, length-append, length-set, length-take, length-drop}
 use Rattle.std.specs.declared.option.Option.{Option}
@@ -21,6 +22,8 @@ use Rattle.std.specs.declared.result.Result.{Result}
 use Rattle.std.specs.declared.result.Result.the-variants.{Ok, Err}
 use Rattle.cache_model.specs.declared.error.Failed.{Failed}
 use Rattle.cache_model.specs.declared.error.PendingError.{PendingError}
+use Rattle.cache_model.specs.Entries.{holding, promote}
+use Rattle.cache_model.specs.Cache.{Cache, Question, Asked, poll-pending, check, load, pass, Passed, asking-first, has-place, poll-pending, emptied}
 use Rattle.cache_model.specs.declared.error.PendingError.the-variants as pending
 
 module _ {K S Q A E W : Type 0} (keys : Sameness K) (ends : Endpoints S Q A E W) (now : ℕ) where
@@ -84,3 +87,26 @@ module _ {K S Q A E W : Type 0} (keys : Sameness K) (ends : Endpoints S Q A E W)
       some-case (λ (o : Outcome (Option W) (Cache K S)). length (o .after .ready) ≡ length (c .ready)) (at (c .ready) i) _ _
       (λ _. refl)
       (λ e _. length-set (c .ready) i (holding e (ends .loaded (e .endpoint) now)))
+
+  aside-length : (e : Entry K S) (ps : List (Entry K S)) → length (set-aside keys e ps) ≤ suc (length ps)
+  aside-length e ps =
+      cond-case (λ (xs : List (Entry K S)). length xs ≤ suc (length ps)) (any-live keys (e .key) ps) _ _
+      (λ _. omega arith)
+      (λ _. let h = length-append ps (entry (e .key) (e .endpoint) (e .serial) ∷ []) in omega arith)
+
+  swap-short : (xs : List (Entry K S)) (i : ℕ) (e : Entry K S) → at xs i ≡ Some e → suc (length (swap-remove xs i)) ≡ length xs
+  swap-short [] i e h = absurd (no-some h)
+  swap-short (x ∷ []) zero e h = refl
+  swap-short (x ∷ y ∷ ys) zero e h = swap-length (x ∷ y ∷ ys) zero (omega arith)
+  swap-short (x ∷ xs) (suc i) e h = ap suc (swap-short xs i e h)
+
+  -- a check adds nobody, and one that fails leaves one less
+  pub check-held : (c : Cache K S) (i : ℕ) → held (check keys ends now c i .after) + by-check (check keys ends now c i .answer) 0 0 1 ≤ held c
+  check-held c i =
+      let Goal : Asked (Result Bool (Failed K E)) K S E → Type 0 = λ k. held (k .after) + by-check (k .answer) 0 0 1 ≤ held c in
+      some-case Goal (at (c .ready) i) _ _
+      (λ _. omega arith)
+      (λ e here. readiness-case Goal (ends .polled (e .endpoint) now .answer) _ _ _
+        (λ _. let h = length-set (c .ready) i (holding e (ends .polled (e .endpoint) now .after)) in omega arith)
+        (λ _. let h = swap-short (c .ready) i e here in let g = aside-length (holding e (ends .polled (e .endpoint) now .after)) (c .pending) in omega arith)
+        (λ x _. let h = swap-short (c .ready) i e here in omega arith))

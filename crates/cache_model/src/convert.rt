@@ -2,7 +2,6 @@
 ghost use mathlib.Core.Path.{_≡_};
 ghost use Rattle.cache_model.specs.Answers.{as-call};
 ghost use Rattle.cache_model.specs.declared.error.PendingError.the-variants as pending;
-
 use crate::error::CallRefusal;
 use crate::error::Failed;
 use crate::error::PendingError;

@@ -1,8 +1,8 @@
 -- The answers of a feed from a list, by their number.
-use mathlib.Core.Path.{_≡_, refl, sym, ap, _∙_}
-use mathlib.Core.Bool.{Bool, true, false, cond}
+use mathlib.Core.Path.{_≡_, sym, ap, _∙_}
+use mathlib.Core.Bool.{cond}
 use mathlib.Core.Logic.{_⊎_, inl, inr}
-use mathlib.Core.List.{List, [], _∷_}
+use mathlib.Core.List.{List}
 use Prim.Native.Nat.{ℕ, zero, suc, _+_, _<_, _≤_}
 use native.Mathlib.Nat.{zero-add}
 use native.Mathlib.Omega.{arith}
@@ -11,7 +11,6 @@ use lib.ListN.{length, getD}
 use denote.Ref.{RefT}
 use Rattle.std.proofs.shelf.Tests.{lt-ltb, le-ltb, cases-lt, cond-true, cond-false}
 use Rattle.model.specs.Options.{by-some}
-use Rattle.model.specs.Lists.{at}
 use Rattle.model.proofs.Lists.{at-getD, at-past}
 use Rattle.discover.specs.declared.discovered.Discovered.{Discovered}
 use Rattle.discover.specs.declared.discovered.Discovered.the-variants.{End}

@@ -1,10 +1,10 @@
 -- The feed from a list: its answers in order, and End after the last, again and again.
-use mathlib.Core.Bool.{Bool, true, false, cond}
-use mathlib.Core.List.{List, [], _∷_}
+use mathlib.Core.Bool.{cond}
+use mathlib.Core.List.{List}
 use Prim.Native.Nat.{ℕ, _+_}
 use lib.Dec.{ltb}
 use lib.ListN.{length}
-use Rattle.model.specs.Outcome.{Outcome, outcome}
+use Rattle.model.specs.Outcome.{outcome}
 use Rattle.model.specs.Options.{by-some}
 use Rattle.model.specs.Lists.{at}
 use Rattle.discover.specs.declared.discovered.Discovered.{Discovered}

@@ -1,7 +1,7 @@
 -- Texts packed in numbers, and back.
 use mathlib.Core.Path.{_≡_, refl, sym, ap, ap₂, _∙_, subst}
 use mathlib.Core.Bool.{Bool, true, false, cond, _&&_}
-use mathlib.Core.List.{List, [], _∷_, _++_, map, append-assoc, append-nil}
+use mathlib.Core.List.{List, [], _∷_, _++_, append-assoc, append-nil}
 use Prim.Native.Nat.{ℕ, zero, suc, _+_, _*_, _/_, _%_, _^_, _<_, _≤_}
 use native.Mathlib.Nat.{not-suc-le-zero, pow-le-pow-right}
 use native.Mathlib.Omega.{arith}
@@ -9,9 +9,9 @@ use lib.Dec.{ltb, leb, eqb, lit<}
 use lib.ListN.{length, getD, take, length-take}
 use lib.Utf8.{encode, encodes}
 use Rattle.std.specs.Orderings.{Decides}
-use Rattle.std.specs.Text.{Ascii, asciiAlnum, lower}
+use Rattle.std.specs.Text.{asciiAlnum, lower}
 use Rattle.std.specs.Vec.{Every as All}
-use Rattle.std.specs.shelf.Digits.{number, numberAfter, digitsOf, Under}
+use Rattle.std.specs.shelf.Digits.{numberAfter, digitsOf}
 use Rattle.std.specs.Results.{isOk}
 use Rattle.std.specs.Written.{Prints}
 use Rattle.std.specs.declared.fmt.Error.{Error}
@@ -26,7 +26,6 @@ use Rattle.std.proofs.shelf.Tests.{and-parts, and-from, and-left, and-right, lt
 use Rattle.std.proofs.shelf.Ways.{tells}
 use Rattle.std.specs.declared.result.Result.{Result}
 use Rattle.std.specs.declared.result.Result.the-variants.{Ok, Err}
-use Rattle.service.specs.declared.refusal.Invalid.{Invalid}
 use Rattle.service.specs.declared.refusal.Invalid.the-variants as invalid
 use Rattle.keys.specs.declared.name.Name.{Name}
 use Rattle.keys.specs.Names.{letters-or-digits, is-name, without-case, packed, name-of, new-name, shown, text-of, names, Same-without-case}

@@ -34,7 +34,11 @@ pub fn find<T: Copy, P: Test<T>>(items: &[T], len: usize, test: &P) -> Option<us
 pub fn get<T: Copy>(items: &[T], len: usize, i: usize) -> Option<T>
     ensures { λ r. ⌜ r ≡ at (take len (now (items .entry))) i ⌝ }
 {
-    if i < len && i < items.len() { Some(items[i]) } else { None }
+    if i < len && i < items.len() {
+        Some(items[i])
+    } else {
+        None
+    }
 }
 
 // Writes an item after the last one, if there is memory for it, and answers whether there is.

@@ -37,6 +37,10 @@ pub impl<S: Service> Endpoint for PendingRequests<S> as PendingRequestsEndpoint 
 
     ghost means = { over (S·Service .serves) };
 
+    fn count(&self) -> u32 {
+        self.count
+    }
+
     fn poll_ready(&mut self, at: u64) -> Readiness<S::Error> {
         self.service.poll_ready(at)
     }

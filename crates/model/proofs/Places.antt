@@ -85,3 +85,17 @@ module _ {A : Type 0} where
   swap-length (x ∷ []) zero h = refl
   swap-length (x ∷ y ∷ ys) zero h = ap (λ (n : ℕ). suc (suc n)) (front-length y ys)
   swap-length (x ∷ xs) (suc i) h = ap suc (swap-length xs i (le-of-suc-le-suc h))
+
+  -- an item that was found is there
+  pub place-there : (p : A → Bool) (xs : List A) (i : ℕ) → place-of p xs ≡ Some i → (x : A) × (at xs i ≡ Some x)
+  place-there p [] i e = absurd (no-some e)
+  place-there p (y ∷ ys) i e = go (p y) e (place-of p ys) refl (place-there p ys)
+    where
+      go : (t : Bool) → cond t (Some 0) (one-more (place-of p ys)) ≡ Some i → (o : Option ℕ) → place-of p ys ≡ o → ((j : ℕ) → place-of p ys ≡ Some j → (x : A) × (at ys j ≡ Some x)) → (x : A) × (at (y ∷ ys) i ≡ Some x)
+      go true e o q ih = let z : i ≡ 0 = cc in (y, ap (at (y ∷ ys)) z)
+      go false e None q ih = absurd (no-some (sym (ap one-more q) ∙ e))
+      go false e (Some j) q ih =
+          let w : Some (suc j) ≡ Some i = sym (ap one-more q) ∙ e in
+          let z : i ≡ suc j = cc in
+          let r = ih j q in
+          (r .0, ap (at (y ∷ ys)) z ∙ r .1)

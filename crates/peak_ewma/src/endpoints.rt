@@ -12,7 +12,6 @@ use service::Service;
 use service::readiness::Readiness;
 use service::refusal::EndpointRefusal;
 use service::refusal::Invalid;
-use service::refusal::ServiceRefusal;
 use std::num::f64_to_bits_with_nan;
 use std::num::nearest_u64_to_f64;
 
@@ -88,24 +87,26 @@ pub impl<S: Service, D: Decay> Endpoint for PeakEwma<S, D> as PeakEwmaEndpoint {
 
     ghost means = { peak-ewma (D·Decay .decays) (S·Service .serves) };
 
+    fn count(&self) -> u32 {
+        self.count
+    }
+
     fn poll_ready(&mut self, at: u64) -> Readiness<S::Error> {
         self.service.poll_ready(at)
     }
 
-    // The service is called on a copy, which is kept only if the count may go up.
     fn call(&mut self, request: S::Request, at: u64) -> Result<S::Response, EndpointRefusal> {
-        let mut service = self.service;
-        match service.call(request, at) {
-            Err(ServiceRefusal::NoGrant) => Err(EndpointRefusal::NoGrant),
-            Ok(response) => {
-                if self.count >= CEILING {
-                    return Err(EndpointRefusal::AtCeiling);
-                }
-                self.service = service;
-                self.count += 1;
-                Ok(response)
-            }
+        if !self.service.is_granted() {
+            return Err(EndpointRefusal::NoGrant);
         }
+        if self.count >= CEILING {
+            return Err(EndpointRefusal::AtCeiling);
+        }
+        let Ok(response) = self.service.call(request, at) else {
+            return Err(EndpointRefusal::NoGrant);
+        };
+        self.count += 1;
+        Ok(response)
     }
 
     fn finish(&mut self, sent: u64, at: u64) {

@@ -41,16 +41,16 @@ module _ {K S Q A E W : Type 0} (keys : Sameness K) (ends : Endpoints S Q A E W)
   resumed xs ys r n resume capacity l =
       let len : length (take n ys) ≡ n = length-take-le n ys l in
       ⊎-elim
-        (λ (h : resume < n).
-          (let e : min resume n ≡ resume = omega arith in
-          ap (λ z. ended (pass keys ends now capacity (take r xs) z (drop resume (take n ys)))) (take-take resume n ys (omega arith))
-          ∙ ap (λ z. left-of keys ends now capacity n xs ys (start r z)) (sym e)))
-        (λ (h : n ≤ resume).
-          (let e : min resume n ≡ n = omega arith in
-          ap (λ z. ended (pass keys ends now capacity (take r xs) z (drop resume (take n ys)))) (take-all resume (take n ys) (omega arith))
-          ∙ ap (λ z. ended (pass keys ends now capacity (take r xs) (take n ys) z)) (drop-all resume (take n ys) (omega arith) ∙ sym (drop-all n (take n ys) (omega arith)))
-          ∙ ap (λ z. left-of keys ends now capacity n xs ys (start r z)) (sym e)))
-        (cases-lt resume n)
+      (λ (h : resume < n).
+      (let e : min resume n ≡ resume = omega arith in
+      ap (λ z. ended (pass keys ends now capacity (take r xs) z (drop resume (take n ys)))) (take-take resume n ys (omega arith))
+      ∙ ap (λ z. left-of keys ends now capacity n xs ys (start r z)) (sym e)))
+      (λ (h : n ≤ resume).
+      (let e : min resume n ≡ n = omega arith in
+      ap (λ z. ended (pass keys ends now capacity (take r xs) z (drop resume (take n ys)))) (take-all resume (take n ys) (omega arith))
+      ∙ ap (λ z. ended (pass keys ends now capacity (take r xs) (take n ys) z)) (drop-all resume (take n ys) (omega arith) ∙ sym (drop-all n (take n ys) (omega arith)))
+      ∙ ap (λ z. left-of keys ends now capacity n xs ys (start r z)) (sym e)))
+      (cases-lt resume n)
 
   abbrev answer-of : Ended K S E → Result (Poll (Unit {0})) (PendingError K E)
   answer-of p = by-some (p .fault) (Ok (emptied (p .kept))) Err

@@ -26,9 +26,9 @@ use Rattle.cache_model.specs.declared.error.CallRefusal.the-variants.{NotReady}
 use Rattle.cache_model.specs.Answers.{as-call, by-readiness}
 use Rattle.cache_model.specs.Entries.{holding, has-serial, set-aside, any-live, cancel, ready-place}
 use Rattle.cache_model.specs.Cache.{Cache, Asked, with-lists, load, evict, check, call, finish, finish-in}
-use Rattle.ready_cache.specs.Asking.{told}
+use Rattle.entries.specs.Asking.{told}
 use Rattle.ready_cache.proofs.Views.{wrote}
-use Rattle.ready_cache.proofs.Lists.{finish-is}
+use Rattle.entries.proofs.Lists.{finish-is}
 
 by-some-map : {A B C : Type 0} (h : B → C) (o : Option A) (b : B) (f : A → B) → h (by-some o b f) ≡ by-some o (h b) (λ a. h (f a))
 by-some-map h None b f = refl
@@ -37,17 +37,17 @@ by-some-map h (Some a) b f = refl
 -- ---- one question
 
 module _ {K S E B : Type 0} (e : Entry K S) where
-  pick-ready : (r : Readiness E) (a b : B) (f : E → B) → Ok true ≡ told e r → by-readiness r a b f ≡ a
+  pub pick-ready : (r : Readiness E) (a b : B) (f : E → B) → Ok true ≡ told e r → by-readiness r a b f ≡ a
   pick-ready Ready a b f h = refl
   pick-ready Pending a b f h = let z : _≡_ {A = ℕ} 0 1 = cc in absurd (omega arith)
   pick-ready (Failed x) a b f h = let z : _≡_ {A = ℕ} 0 1 = cc in absurd (omega arith)
 
-  pick-pending : (r : Readiness E) (a b : B) (f : E → B) → Ok false ≡ told e r → by-readiness r a b f ≡ b
+  pub pick-pending : (r : Readiness E) (a b : B) (f : E → B) → Ok false ≡ told e r → by-readiness r a b f ≡ b
   pick-pending Ready a b f h = let z : _≡_ {A = ℕ} 0 1 = cc in absurd (omega arith)
   pick-pending Pending a b f h = refl
   pick-pending (Failed x) a b f h = let z : _≡_ {A = ℕ} 0 1 = cc in absurd (omega arith)
 
-  pick-failed : (r : Readiness E) (a b : B) (f : E → B) (y : Failure K E) → Err y ≡ told e r → by-readiness r a b f ≡ f (y .error)
+  pub pick-failed : (r : Readiness E) (a b : B) (f : E → B) (y : Failure K E) → Err y ≡ told e r → by-readiness r a b f ≡ f (y .error)
   pick-failed Ready a b f y h = let z : _≡_ {A = ℕ} 0 1 = cc in absurd (omega arith)
   pick-failed Pending a b f y h = let z : _≡_ {A = ℕ} 0 1 = cc in absurd (omega arith)
   pick-failed (Failed x) a b f y h = let s : x ≡ y .error = cc in ap f s

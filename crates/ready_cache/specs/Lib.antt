@@ -1,3 +1,2 @@
 pub mod View
-pub mod Asking
 pub mod Passing

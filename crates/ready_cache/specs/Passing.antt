@@ -31,15 +31,15 @@ pub record Turned {K S Q A E W : Type 0} (ends : Endpoints S Q A E W) (now : ℕ
   pub who : Entry K S
   pub there : who ≡ getD xs (p .read) who
   pub told :
-    let left = ends .polled (who .endpoint) now in
-    r ≡ cond (who .cancelled) (Ok None) (by-readiness (left .answer) (Ok (Some (holding who (left .after)))) (Ok None) (λ x. Err (record { key = who .key; error = x })))
+      let left = ends .polled (who .endpoint) now in
+      r ≡ cond (who .cancelled) (Ok None) (by-readiness (left .answer) (Ok (Some (holding who (left .after)))) (Ok None) (λ x. Err (record { key = who .key; error = x })))
   pub memory :
-    let left = ends .polled (who .endpoint) now in
-    let asked = set xs (p .read) (holding who (left .after)) in
-    ys ≡ cond (who .cancelled) xs (by-readiness (left .answer) asked (set asked (p .write) (holding who (left .after))) (λ _. asked))
+      let left = ends .polled (who .endpoint) now in
+      let asked = set xs (p .read) (holding who (left .after)) in
+      ys ≡ cond (who .cancelled) xs (by-readiness (left .answer) asked (set asked (p .write) (holding who (left .after))) (λ _. asked))
   pub places :
-    let left = ends .polled (who .endpoint) now in
-    q ≡ cond (who .cancelled) (over p) (by-readiness (left .answer) p (kept p) (λ _. over p))
+      let left = ends .polled (who .endpoint) now in
+      q ≡ cond (who .cancelled) (over p) (by-readiness (left .answer) p (kept p) (λ _. over p))
 
 module _ {K S : Type 0} (keys : Sameness K) where
   -- e joined the first len of xs, in which it had a place; there are n of them then

@@ -5,9 +5,8 @@ ghost use Rattle.model.specs.Lists.{at as item-at, swap-remove};
 ghost use Rattle.cache_model.specs.Entries.{set-aside};
 ghost use Rattle.cache_model.specs.Cache.{with-lists, push, evict};
 ghost use Rattle.ready_cache.specs.View.{view};
-
 use crate::cache::ReadyCache;
-use crate::entries;
+use crate::pending;
 use cache_model::entry::Entry;
 use cache_model::error::PushError;
 use cache_model::error::PushRefusal;
@@ -38,13 +37,24 @@ impl<'a, K: Key, S: Copy> ReadyCache<'a, K, S> {
         let l = self.lengths();
         let serial = self.next_serial;
         if l.ready + l.pending >= l.capacity {
-            return Err(PushError { key, refusal: PushRefusal::Full });
+            return Err(PushError {
+                key,
+                refusal: PushRefusal::Full,
+            });
         }
         if serial >= u64::MAX {
-            return Err(PushError { key, refusal: PushRefusal::SerialsSpent });
+            return Err(PushError {
+                key,
+                refusal: PushRefusal::SerialsSpent,
+            });
         }
         entries::cancel(self.pending, l.pending, &key);
-        let entry = Entry { key, endpoint, serial, cancelled: false };
+        let entry = Entry {
+            key,
+            endpoint,
+            serial,
+            cancelled: false,
+        };
         lists::append(self.pending, l.pending, entry);
         self.pending_count = l.pending + 1;
         self.next_serial = serial + 1;
@@ -74,7 +84,7 @@ impl<'a, K: Key, S: Copy> ReadyCache<'a, K, S> {
         let l = self.lengths();
         match lists::swap_remove(self.ready, l.ready, i) {
             Some(entry) => {
-                let end = entries::set_aside(self.pending, l.pending, entry);
+                let end = pending::set_aside(self.pending, l.pending, entry);
                 self.ready_count = l.ready - 1;
                 self.pending_count = end;
             }

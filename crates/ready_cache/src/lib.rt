@@ -13,20 +13,19 @@ ghost use Rattle.ready_cache.specs.View.{view, stored};
 
 pub mod cache;
 mod change;
-mod entries;
 mod pass;
+mod pending;
 mod places;
 mod serve;
-mod wanted;
 
 use cache::ReadyCache;
 use cache_model::entry::Entry;
+use entries::wanted::LiveOf;
+use entries::wanted::OfKey;
+use entries::wanted::TestLiveOf;
+use entries::wanted::TestOfKey;
 use service::Key;
 use std::slice::Iter;
-use wanted::LiveOf;
-use wanted::OfKey;
-use wanted::TestLiveOf;
-use wanted::TestOfKey;
 
 // How many entries there is memory for, and how many are ready and pending.
 #[derive(Clone, Copy)]
@@ -38,7 +37,11 @@ struct Lengths {
 
 impl<'a, K: Copy, S: Copy> ReadyCache<'a, K, S> {
     // An empty cache in this memory, whose first worker gets this serial.
-    pub fn new(ready: &'a mut [Entry<K, S>], pending: &'a mut [Entry<K, S>], first_serial: u64) -> Self
+    pub fn new(
+        ready: &'a mut [Entry<K, S>],
+        pending: &'a mut [Entry<K, S>],
+        first_serial: u64,
+    ) -> Self
         ensures { λ r. ⌜ view r ≡ new-cache (capacity-of (length (now (ready .entry))) (length (now (pending .entry)))) «first_serial» ⌝ }
     {
         ReadyCache {
@@ -60,7 +63,11 @@ impl<'a, K: Copy, S: Copy> ReadyCache<'a, K, S> {
         let capacity = self.ready.len().min(self.pending.len()).min(4096);
         let ready = self.ready_count.min(capacity);
         let pending = self.pending_count.min(capacity - ready);
-        Lengths { capacity, ready, pending }
+        Lengths {
+            capacity,
+            ready,
+            pending,
+        }
     }
 
     // How many workers there are.
@@ -118,7 +125,8 @@ impl<'a, K: Copy, S: Copy> ReadyCache<'a, K, S> {
     pub fn iter_ready(&self) -> Iter<'_, Entry<K, S>>
         ensures { λ r. ⌜ iter-rest r ≡ view (now (self .entry)) .ready ⌝ }
     {
-        let end = self.lengths().ready;
+        let l = self.lengths();
+        let end = l.ready;
         self.ready[0..end].iter()
     }
 }

@@ -7,22 +7,24 @@ ghost use Rattle.std.specs.Results.{Cases as By-result};
 ghost use Rattle.cache_model.specs.Cache.{poll-pending};
 ghost use Rattle.ready_cache.specs.View.{view};
 ghost use Rattle.ready_cache.specs.Passing.{Turned, Promoted, Refused, Ends};
-
 use crate::cache::ReadyCache;
 use crate::places::Places;
-use crate::wanted::OfKey;
-use crate::wanted::TestOfKey;
 use cache_model::convert::PendingErrorFromFailed;
 use cache_model::entry::Entry;
 use cache_model::error::Failed;
 use cache_model::error::PendingError;
+use entries::wanted::OfKey;
+use entries::wanted::TestOfKey;
 use service::Endpoint;
 use service::Key;
 use service::poll::Poll;
-use service::readiness::Readiness;
 
 // Comes to the next entry, and answers it if it is ready; one that is pending moves to the front, and any other is passed over.
-fn turn<K: Copy, S: Endpoint>(items: &mut [Entry<K, S>], places: &mut Places, at: u64) -> Result<Option<Entry<K, S>>, Failed<K, S::Error>>
+fn turn<K: Copy, S: Endpoint>(
+    items: &mut [Entry<K, S>],
+    places: &mut Places,
+    at: u64,
+) -> Result<Option<Entry<K, S>>, Failed<K, S::Error>>
     requires { ⌜ now places .write ≤ now places .read ⌝ ∗ ⌜ now places .read < length (now items) ⌝ }
     ensures { λ r. ⌜ Turned means at (now (items .entry)) (now (places .entry)) r (now (items .exit)) (now (places .exit)) ⌝ }
 {
@@ -31,24 +33,32 @@ fn turn<K: Copy, S: Endpoint>(items: &mut [Entry<K, S>], places: &mut Places, at
         places.read = read + 1;
         return Ok(None);
     }
-    match items[read].endpoint.poll_ready(at) {
-        Readiness::Ready => Ok(Some(items[read])),
-        Readiness::Pending => {
+    let len = items.len();
+    match entries::ask(items, len, read, at) {
+        Ok(ready) => {
+            if ready {
+                return Ok(Some(items[read]));
+            }
             let write = places.write;
             items[write] = items[read];
             places.read = read + 1;
             places.write = write + 1;
             Ok(None)
         }
-        Readiness::Failed(error) => {
+        Err(failed) => {
             places.read = read + 1;
-            Err(Failed { key: items[read].key, error })
+            Err(failed)
         }
     }
 }
 
 // Puts the entry in the place of its key's one, or after the last; answers how many there are then.
-fn promote<K: Key, S: Endpoint>(items: &mut [Entry<K, S>], len: usize, capacity: usize, entry: Entry<K, S>) -> Result<usize, PendingError<K, S::Error>>
+fn promote<K: Key, S: Endpoint>(
+    items: &mut [Entry<K, S>],
+    len: usize,
+    capacity: usize,
+    entry: Entry<K, S>,
+) -> Result<usize, PendingError<K, S::Error>>
     requires { ⌜ len ≤ capacity ⌝ ∗ ⌜ capacity ≤ length (now items) ⌝ }
     ensures { λ r. ⌜ By-result r (Promoted sameness capacity entry (now (items .entry)) len (now (items .exit))) (Refused sameness capacity entry (now (items .entry)) len (now (items .exit))) ⌝ }
 {
@@ -84,7 +94,13 @@ fn close<T: Copy>(items: &mut [T], to: usize, from: usize, end: usize) -> usize
 
 impl<'a, K: Key, S: Endpoint> ReadyCache<'a, K, S> {
     // Goes from entry to entry, up to the end or a fault.
-    fn pass(&mut self, places: &mut Places, capacity: usize, end: usize, at: u64) -> Result<(), PendingError<K, S::Error>>
+    fn pass(
+        &mut self,
+        places: &mut Places,
+        capacity: usize,
+        end: usize,
+        at: u64,
+    ) -> Result<(), PendingError<K, S::Error>>
         requires { ⌜ now places .write ≤ now places .read ⌝ ∗ ⌜ now places .read ≤ end ⌝ ∗ ⌜ end ≤ length (now self .pending .now) ⌝ ∗ ⌜ now places .ready ≤ capacity ⌝ ∗ ⌜ capacity ≤ length (now self .ready .now) ⌝ }
         ensures ends { λ r. ⌜ Ends sameness means at capacity end (now (self .entry) .ready .now) (now (self .entry) .pending .now) (now (self .exit) .ready .now) (now (self .exit) .pending .now) (now (places .entry)) (now (places .exit)) r ⌝ }
         ensures next { λ _. ⌜ now (self .exit) .«next_serial» ≡ now (self .entry) .«next_serial» ⌝ }
@@ -107,7 +123,11 @@ impl<'a, K: Key, S: Endpoint> ReadyCache<'a, K, S> {
         let l = self.lengths();
         let end = l.pending;
         let from = self.resume.min(end);
-        let mut places = Places { ready: l.ready, read: from, write: from };
+        let mut places = Places {
+            ready: l.ready,
+            read: from,
+            write: from,
+        };
         let passed = self.pass(&mut places, l.capacity, end, at);
         let left = close(self.pending, places.write, places.read, end);
         self.ready_count = places.ready;
@@ -115,6 +135,10 @@ impl<'a, K: Key, S: Endpoint> ReadyCache<'a, K, S> {
         self.resume = places.write;
         passed?;
         self.resume = 0;
-        if left == 0 { Ok(Poll::Ready(())) } else { Ok(Poll::Pending) }
+        if left == 0 {
+            Ok(Poll::Ready(()))
+        } else {
+            Ok(Poll::Pending)
+        }
     }
 }

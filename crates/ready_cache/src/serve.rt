@@ -2,9 +2,7 @@
 ghost use mathlib.Core.Path.{_≡_};
 ghost use Rattle.cache_model.specs.Cache.{check, check-key, call, call-key, finish, load};
 ghost use Rattle.ready_cache.specs.View.{view};
-
 use crate::cache::ReadyCache;
-use crate::entries;
 use cache_model::error::CallRefusal;
 use cache_model::error::Failed;
 use service::Endpoint;
@@ -44,7 +42,12 @@ impl<'a, K: Key, S: Endpoint> ReadyCache<'a, K, S> {
     }
 
     // Hands a request to the ready worker at a place, which is pending from then on.
-    pub fn call_ready_index(&mut self, i: usize, request: S::Request, at: u64) -> Result<S::Response, CallRefusal>
+    pub fn call_ready_index(
+        &mut self,
+        i: usize,
+        request: S::Request,
+        at: u64,
+    ) -> Result<S::Response, CallRefusal>
         ensures answer { λ r. ⌜ r ≡ call sameness means at (view (now (self .entry))) i request .answer ⌝ }
         ensures after { λ _. ⌜ view (now (self .exit)) ≡ call sameness means at (view (now (self .entry))) i request .after ⌝ }
     {
@@ -55,7 +58,12 @@ impl<'a, K: Key, S: Endpoint> ReadyCache<'a, K, S> {
     }
 
     // The same by key.
-    pub fn call_ready(&mut self, key: &K, request: S::Request, at: u64) -> Result<S::Response, CallRefusal>
+    pub fn call_ready(
+        &mut self,
+        key: &K,
+        request: S::Request,
+        at: u64,
+    ) -> Result<S::Response, CallRefusal>
         ensures answer { λ r. ⌜ r ≡ call-key sameness means at (view (now (self .entry))) (now (key .entry)) request .answer ⌝ }
         ensures after { λ _. ⌜ view (now (self .exit)) ≡ call-key sameness means at (view (now (self .entry))) (now (key .entry)) request .after ⌝ }
     {

@@ -1,8 +1,6 @@
 -- A bare service in use: whatever is asked of it and sent to it, one after the other.
-use mathlib.Core.List.{List, [], _∷_, _++_}
-use Prim.Native.Nat.{ℕ, zero, suc}
-use Rattle.std.specs.declared.option.Option.{Option}
-use Rattle.std.specs.declared.option.Option.the-variants.{Some, None}
+use mathlib.Core.List.{List, [], _∷_}
+use Prim.Native.Nat.{ℕ, suc}
 use Rattle.model.specs.Options.{by-some}
 use Rattle.service.specs.declared.readiness.Readiness.{Readiness}
 use Rattle.service.specs.Meaning.{Services, service-called}

@@ -64,6 +64,10 @@ pub trait Endpoint: Copy {
 
     ghost means: { Endpoints Self (Self·Request) (Self·Response) (Self·Error) (Self·Metric) };
 
+    // How many requests are out.
+    fn count(&self) -> u32
+        ensures { λ r. ⌜ r ≡ means .count (now (self .entry)) ⌝ };
+
     fn poll_ready(&mut self, at: u64) -> Readiness<Self::Error>
         ensures answer { λ r. ⌜ r ≡ means .polled (now (self .entry)) at .answer ⌝ }
         ensures after { λ _. ⌜ now (self .exit) ≡ means .polled (now (self .entry)) at .after ⌝ };

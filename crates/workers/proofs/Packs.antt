@@ -1,5 +1,5 @@
 -- Answers packed in a number.
-use mathlib.Core.Path.{_≡_, refl, sym, ap, ap₂, _∙_, subst}
+use mathlib.Core.Path.{_≡_, refl, sym, ap, ap₂, _∙_}
 use mathlib.Core.List.{List, [], _∷_}
 use Prim.Native.Nat.{ℕ, zero, suc, _+_, _-_, _*_, _/_, _%_, _^_, _<_, _≤_}
 use native.Mathlib.Nat.{pow-succ', zero-div, div-one, add-mul-div-left, add-mul-mod-self-left, not-suc-le-zero}
@@ -10,7 +10,6 @@ use Rattle.std.proofs.shelf.Bits.{shr-shr}
 use Rattle.std.proofs.shelf.Lists.{drop-more}
 use Rattle.model.specs.Options.{by-some}
 use Rattle.model.specs.Lists.{at}
-use Rattle.service.specs.declared.readiness.Readiness.{Readiness}
 use Rattle.service.specs.declared.readiness.Readiness.the-variants as readiness
 use Rattle.workers.specs.declared.answer.Answer.{Answer}
 use Rattle.workers.specs.declared.answer.Answer.the-variants.{Ready, Pending, Failed}

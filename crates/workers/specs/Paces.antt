@@ -1,12 +1,12 @@
 -- A paced service: ready from its free instant on, which each call moves.
 use mathlib.Core.Path.{refl}
-use mathlib.Core.Bool.{Bool, true, false, cond}
+use mathlib.Core.Bool.{cond}
 use Prim.Native.Nat.{ℕ, _+_, _-_, _^_, min}
 use lib.Dec.{leb}
 use Rattle.std.specs.declared.convert.Infallible.{Infallible}
 use Rattle.std.specs.declared.option.Option.{Option}
-use Rattle.std.specs.declared.option.Option.the-variants.{Some, None}
-use Rattle.model.specs.Outcome.{Outcome, outcome}
+use Rattle.std.specs.declared.option.Option.the-variants.{None}
+use Rattle.model.specs.Outcome.{outcome}
 use Rattle.service.specs.declared.readiness.Readiness.{Readiness}
 use Rattle.service.specs.declared.readiness.Readiness.the-variants.{Ready, Pending}
 use Rattle.service.specs.Meaning.{Services, granted-by}

@@ -1,15 +1,15 @@
 -- A patterned service: stored answers, packed in a number, and given in turn.
 use mathlib.Core.Path.{refl}
-use mathlib.Core.Bool.{Bool, true, false, cond}
+use mathlib.Core.Bool.{cond}
 use mathlib.Core.List.{List, [], _∷_}
 use Prim.Native.Nat.{ℕ, _+_, _-_, _*_, _/_, _%_, _^_, min}
 use lib.Dec.{ltb, leb, eqb}
 use lib.ListN.{length}
 use Rattle.std.specs.declared.option.Option.{Option}
-use Rattle.std.specs.declared.option.Option.the-variants.{Some, None}
+use Rattle.std.specs.declared.option.Option.the-variants.{None}
 use Rattle.std.specs.declared.result.Result.{Result}
 use Rattle.std.specs.declared.result.Result.the-variants.{Ok, Err}
-use Rattle.model.specs.Outcome.{Outcome, outcome}
+use Rattle.model.specs.Outcome.{outcome}
 use Rattle.model.specs.Options.{by-some}
 use Rattle.model.specs.Lists.{at}
 use Rattle.service.specs.declared.readiness.Readiness.{Readiness}

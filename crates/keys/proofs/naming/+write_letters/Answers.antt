@@ -1,5 +1,4 @@
-use mathlib.Core.Path.{_≡_}
-use Prim.Native.Nat.{ℕ, _<_}
+use Prim.Native.Nat.{_<_}
 use native.Mathlib.Omega.{arith}
 use Rattle.keys.proofs.Names.{shown-then}
 use Rattle.keys.proofs.naming.+write_letters.Needs as need

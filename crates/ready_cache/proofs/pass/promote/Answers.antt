@@ -11,7 +11,7 @@ use Rattle.std.proofs.shelf.Tests.{lt-ltb}
 use Rattle.lists.proofs.Places.{not-found}
 use Rattle.cache_model.specs.declared.entry.Entry.{Entry}
 use Rattle.cache_model.specs.Entries.{has-key, ready-place}
-use Rattle.ready_cache.proofs.Lists.{change-front, renewed, promote-is}
+use Rattle.entries.proofs.Lists.{change-front, renewed, promote-is}
 use Rattle.ready_cache.proofs.pass.promote.Needs as need
 
 pub returns-in-Some : need.returns-in-Some
@@ -30,9 +30,9 @@ returns-in-Some g c =
     record {
       place = ap (λ o. isSome o || ltb (length (take n xs)) (c .args .capacity)) (sym place);
       list =
-        ap (take n) (set-set xs i half _ ∙ ap (λ z. set xs i (record { key = z .key; endpoint = z .endpoint; serial = e .serial; cancelled = z .cancelled })) same)
-        ∙ change-front (has-key keys (e .key)) (renewed keys e) (e ∷ []) xs n i d (within .0) (within .1) place
-        ∙ sym (promote-is keys e (take n xs));
+          ap (take n) (set-set xs i half _ ∙ ap (λ z. set xs i (record { key = z .key; endpoint = z .endpoint; serial = e .serial; cancelled = z .cancelled })) same)
+          ∙ change-front (has-key keys (e .key)) (renewed keys e) (e ∷ []) xs n i d (within .0) (within .1) place
+          ∙ sym (promote-is keys e (take n xs));
       most = omega arith;
       within = c .pre .0;
     }

@@ -22,8 +22,8 @@ returns-then-ready g c =
     record {
       answer = ready-now ∙ check-answer v i keys m t here there;
       after =
-        wrote-view (self .ready .now) (self .pending .now) (c .ask .last .items) (self .«ready_count») (self .«pending_count») (self .«next_serial») (self .resume) i (asked v i keys m t) here (said .after)
-        ∙ check-ready v i keys m t here there ready-now;
+          wrote-view (self .ready .now) (self .pending .now) (c .ask .last .items) (self .«ready_count») (self .«pending_count») (self .«next_serial») (self .resume) i (asked v i keys m t) here (said .after)
+          ∙ check-ready v i keys m t here there ready-now;
     }
 
 pub returns-else-ready : need.returns-else-ready

@@ -23,8 +23,8 @@ returns-then-finish g c =
     record {
       answer = ap (λ x. x .answer) is;
       after =
-        rewrites xs ys (c .finish .last .items) ys (finish-in m t (take (l .ready) xs) serial sent) (take (l .pending) ys) (self .«ready_count») (self .«pending_count») (l .ready) (l .pending) (self .«next_serial») (self .resume) (told .lists) (omega (arith, told .capacity, told .fits)) (c .finish .kept .items) refl (c .finish .ensures .after) refl
-        ∙ ap (λ x. x .after) is;
+          rewrites xs ys (c .finish .last .items) ys (finish-in m t (take (l .ready) xs) serial sent) (take (l .pending) ys) (self .«ready_count») (self .«pending_count») (l .ready) (l .pending) (self .«next_serial») (self .resume) (told .lists) (omega (arith, told .capacity, told .fits)) (c .finish .kept .items) refl (c .finish .ensures .after) refl
+          ∙ ap (λ x. x .after) is;
     }
 
 pub returns : need.returns
@@ -43,6 +43,6 @@ returns g c =
     record {
       answer = c .finish-2 .ensures .answer ∙ ap (λ x. x .answer) is;
       after =
-        rewrites xs ys (c .finish .last .items) (c .finish-2 .last .items) (finish-in m t (take (l .ready) xs) serial sent) (finish-in m t (take (l .pending) ys) serial sent) (self .«ready_count») (self .«pending_count») (l .ready) (l .pending) (self .«next_serial») (self .resume) (told .lists) (omega (arith, told .capacity, told .fits)) (c .finish .kept .items) (c .finish-2 .kept .items) (c .finish .ensures .after) (c .finish-2 .ensures .after)
-        ∙ ap (λ x. x .after) is;
+          rewrites xs ys (c .finish .last .items) (c .finish-2 .last .items) (finish-in m t (take (l .ready) xs) serial sent) (finish-in m t (take (l .pending) ys) serial sent) (self .«ready_count») (self .«pending_count») (l .ready) (l .pending) (self .«next_serial») (self .resume) (told .lists) (omega (arith, told .capacity, told .fits)) (c .finish .kept .items) (c .finish-2 .kept .items) (c .finish .ensures .after) (c .finish-2 .ensures .after)
+          ∙ ap (λ x. x .after) is;
     }

@@ -19,7 +19,7 @@ returns g c =
     record {
       answer = c .load .ensures .answer ∙ ap (λ o. by-some o None (λ e. Some (m .weight (e .endpoint) t))) there ∙ sym (load-answer m t v i);
       after =
-        wrote-view (self .ready .now) (self .pending .now) (c .load .last .items) (self .«ready_count») (self .«pending_count») (self .«next_serial») (self .resume) i (λ e. holding e (m .loaded (e .endpoint) t)) _ (c .load .ensures .after)
-        ∙ ap (wrote v i (λ e. holding e (m .loaded (e .endpoint) t))) there
-        ∙ sym (load-after m t v i);
+          wrote-view (self .ready .now) (self .pending .now) (c .load .last .items) (self .«ready_count») (self .«pending_count») (self .«next_serial») (self .resume) i (λ e. holding e (m .loaded (e .endpoint) t)) _ (c .load .ensures .after)
+          ∙ ap (wrote v i (λ e. holding e (m .loaded (e .endpoint) t))) there
+          ∙ sym (load-after m t v i);
     }

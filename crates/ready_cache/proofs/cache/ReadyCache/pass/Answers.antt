@@ -18,7 +18,7 @@ returns-in-Break-entry g c =
     let f = c .in-Break-entry .field-0 .0 in
     record {
       ends =
-        ends-as keys m (c .args .at) (c .args .capacity) (c .args .end) (self .ready .now) (self .pending .now) (at .self .ready .now) (c .turn .last .items) (c .args .places .now) (c .turn .last .places) (Err (error.Failed f)) (c .from-residual .result) (sym (p .1 ∙ ap Err (p .2)))
+          ends-as keys m (c .args .at) (c .args .capacity) (c .args .end) (self .ready .now) (self .pending .now) (at .self .ready .now) (c .turn .last .items) (c .args .places .now) (c .turn .last .places) (Err (error.Failed f)) (c .from-residual .result) (sym (p .1 ∙ ap Err (p .2)))
           (step-failed keys m (c .args .at) (c .args .capacity) (c .args .end) (self .ready .now) (self .pending .now) (at .self .ready .now) (at .self .pending .now) (c .args .places .now) (at .places) (at .inv .0) (at .inv .1) (c .pre .1 .1 .0) (c .loop-places-test .taken) (c .turn .last .items) (c .turn .last .places) (c .turn .kept .items) f (c .in-Break-entry .ensures tt));
       next = at .inv .2;
     }
@@ -36,7 +36,7 @@ returns-in-Break-places g c =
     let x = c .in-Break-places .field-0 .0 in
     record {
       ends =
-        ends-as keys m (c .args .at) (c .args .capacity) (c .args .end) (self .ready .now) (self .pending .now) (c .promote .last .items) (c .turn .last .items) (c .args .places .now) (c .turn .last .places) (Err x) (r .result) (sym (p .1 ∙ ap Err (p .2)))
+          ends-as keys m (c .args .at) (c .args .capacity) (c .args .end) (self .ready .now) (self .pending .now) (c .promote .last .items) (c .turn .last .items) (c .args .places .now) (c .turn .last .places) (Err x) (r .result) (sym (p .1 ∙ ap Err (p .2)))
           (step-refused keys m (c .args .at) (c .args .capacity) (c .args .end) (self .ready .now) (self .pending .now) (at .self .ready .now) (at .self .pending .now) (c .args .places .now) (at .places) (at .inv .0) (at .inv .1) (c .pre .1 .1 .0) (c .loop-places-test .taken) (c .turn .last .items) (c .turn .last .places) (c .turn .kept .items) e d (c .promote .last .items) (c .promote .kept .items) x (c .in-Break-places .ensures tt));
       next = at .inv .2;
     }

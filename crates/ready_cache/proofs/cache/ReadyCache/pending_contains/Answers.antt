@@ -2,7 +2,7 @@ use mathlib.Core.Path.{_≡_, sym, ap, _∙_}
 use Rattle.std.specs.Options.{isSome}
 use lib.ListN.{take}
 use Rattle.cache_model.specs.Entries.{any-live}
-use Rattle.ready_cache.proofs.Lists.{any-live-is}
+use Rattle.entries.proofs.Lists.{any-live-is}
 use Rattle.ready_cache.proofs.cache.ReadyCache.pending_contains.Needs as need
 
 pub returns : need.returns

@@ -1,5 +1,4 @@
-use mathlib.Core.Path.{_≡_, refl, sym, ap, _∙_, subst}
-use mathlib.Core.Bool.{true}
+use mathlib.Core.Path.{refl, sym, ap, _∙_, subst}
 use Prim.Native.Nat.{ℕ, _≤_}
 use native.Mathlib.Omega.{arith}
 use lib.Dec.{leb}
@@ -7,7 +6,7 @@ use lib.ListN.{length}
 use Rattle.std.proofs.shelf.Tests.{le-leb, cond-true}
 use Rattle.std.specs.declared.option.Option.the-variants.{None}
 use Rattle.std.specs.declared.result.Result.the-variants.{Ok}
-use Rattle.workers.specs.Patterns.{packed, patterned}
+use Rattle.workers.specs.Patterns.{patterned}
 use Rattle.workers.specs.Turns.{Answers-in-turn}
 use Rattle.workers.proofs.Turns.{in-turns, counts-calls}
 use Rattle.workers.proofs.patterned.Patterned.new.Needs as need
