@@ -3,6 +3,7 @@ pub mod repeated;
 pub mod repeating;
 
 use balance::balance::Balance;
+use balance::completion::complete;
 use balance_model::docket_record::DocketRecord;
 use cache_model::entry::Entry;
 use decay::kinds::SquaringDecay;
@@ -127,7 +128,7 @@ where
     let Ok((ticket, response)) = balance.call(cache, docket, 0, at) else {
         return 0;
     };
-    let _ = balance::complete(cache, docket, ticket.saturating_sub(late), at);
+    let _ = complete(cache, docket, ticket.saturating_sub(late), at);
     named.wrapping_add(response)
 }
 

@@ -5,10 +5,12 @@ use crate::run::Run;
 use crate::show::show_call;
 use crate::show::show_check;
 use crate::show::show_completion;
+use crate::show::show_list;
 use crate::show::show_pass;
 use crate::show::show_poll;
 use crate::show::show_unpushed;
 use balance::balance::Balance;
+use balance::completion::complete;
 use balance_model::answer::CallError;
 use balance_model::convert::CallErrorFromCache;
 use balance_model::convert::CallErrorFromDocket;
@@ -23,13 +25,6 @@ use ready_cache::cache::ReadyCache;
 use rng::Rng;
 use std::fmt;
 use std::fmt::Write;
-
-// How many are ready and pending.
-#[derive(Clone, Copy)]
-pub struct Lengths {
-    pub ready: usize,
-    pub pending: usize,
-}
 
 // Hands a request to the ready worker at a place, and notes it.
 fn send<S: Worker>(cache: &mut ReadyCache<'_, Name, S>, docket: &mut Docket<'_>, place: Option<usize>, number: u64, at: u64) -> Result<(u64, S::Response), CallError> {
@@ -83,13 +78,13 @@ where
             let answer = balance.call(cache, docket, D::Service::request(request), at);
             show_call::<D::Service>(answer, out)
         }
-        Pick::Done { at, ticket } => show_completion(balance::complete(cache, docket, ticket, at), out),
+        Pick::Done { at, ticket } => show_completion(complete(cache, docket, ticket, at), out),
         _ => apply_to_cache(pick, worker, cache, docket, out),
     }
 }
 
-// Applies the picks up to the one at `last` to a newly made balancer, cache and docket; writes what that one answers.
-pub fn apply_up_to<D, R>(
+// Applies the picks to a newly made balancer, cache and docket, and writes after each what it answered and both lists. A push takes in the worker at the pick's place.
+pub fn apply_all<D, R>(
     run: &Run,
     feed: D,
     words: R,
@@ -97,9 +92,8 @@ pub fn apply_up_to<D, R>(
     ready: &mut [Entry<Name, D::Service>],
     pending: &mut [Entry<Name, D::Service>],
     records: &mut [DocketRecord],
-    last: usize,
     out: &mut String,
-) -> Result<Lengths, fmt::Error>
+) -> fmt::Result
 where
     D: Discover<Key = Name, Error = u32> + Drop,
     R: Rng + Drop,
@@ -108,9 +102,11 @@ where
     let mut cache = ReadyCache::new(ready, pending, run.first_serial);
     let mut docket = Docket::new(records, run.first_ticket);
     let mut balance = Balance::from_rng(feed, words, run.budget);
-    for (pick, worker) in run.picks.iter().zip(workers.iter()).take(last.saturating_add(1)) {
-        out.clear();
+    for (pick, worker) in run.picks.iter().zip(workers.iter()) {
         apply(*pick, *worker, &mut balance, &mut cache, &mut docket, out)?;
+        show_list(cache.iter_ready(), out)?;
+        show_list(cache.iter_pending(), out)?;
+        writeln!(out)?;
     }
-    Ok(Lengths { ready: cache.ready_len(), pending: cache.pending_len() })
+    Ok(())
 }

@@ -1,6 +1,5 @@
 // How the workers of a run are made, called and printed.
 use decay::Decay;
-use keys::name::Name;
 use load::PendingRequestsEndpoint;
 use load::pending_requests::PendingRequests;
 use peak_ewma::endpoints::PeakEwmaEndpoint;
@@ -10,7 +9,6 @@ use service::Service;
 use std::convert::Infallible;
 use std::fmt;
 use std::fmt::Write;
-use std::num::saturating_f64_to_u64;
 use workers::paced::Paced;
 use workers::pacing::PacedService;
 use workers::patterned::Patterned;
@@ -89,10 +87,8 @@ pub impl<B: Bare> Worker for PendingRequests<B> as CountedWorker {
         B::place(error)
     }
 
-    // The weight is the count, at any instant.
     fn show(&self, out: &mut String) -> fmt::Result {
-        let mut copy = *self;
-        let count = copy.load(0);
+        let count = self.count();
         write!(out, "{count}")
     }
 }
@@ -110,17 +106,11 @@ pub impl<B: Bare, D: Decay> Worker for PeakEwma<B, D> as TimedWorker {
         B::place(error)
     }
 
-    // The weight at the last update is the estimate times one more than the count: it tells the count unless the estimate is 0.
     fn show(&self, out: &mut String) -> fmt::Result {
+        let count = self.count();
         let estimate = self.estimate();
         let bits = estimate.to_bits();
         let at = estimate.update_at;
-        if bits == 0 {
-            return write!(out, "?:{bits:016x}:{at}");
-        }
-        let mut copy = *self;
-        let weight = copy.load(at).nanos;
-        let count = saturating_f64_to_u64(weight / estimate.rtt_ns + 0.5).saturating_sub(1);
         write!(out, "{count}:{bits:016x}:{at}")
     }
 }

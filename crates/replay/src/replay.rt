@@ -1,14 +1,14 @@
 // Replays a run, with workers of its kind.
-use crate::apply::apply_up_to;
+use crate::apply::apply_all;
 use crate::kinds::Bare;
 use crate::kinds::CountedWorker;
 use crate::kinds::PacedBare;
 use crate::kinds::PatternedBare;
 use crate::kinds::TimedWorker;
+use crate::kinds::Worker;
 use crate::run::Measure;
 use crate::run::Pick;
 use crate::run::Run;
-use crate::show::show_list;
 use balance_model::docket_record::DocketRecord;
 use cache_model::entry::Entry;
 use decay::Decay;
@@ -16,6 +16,7 @@ use decay::halving::Halving;
 use decay::kinds::HalvingDecay;
 use decay::kinds::SquaringDecay;
 use decay::squaring::Squaring;
+use discover::Discover;
 use discover::discovered::Discovered;
 use discover::feeds::ListFeedDiscover;
 use discover::list_feed::ListFeed;
@@ -104,31 +105,34 @@ fn counted_feed<B: Bare>(heap: Global, bare: &[Discovered<Name, B, u32>]) -> Res
     Ok(answers)
 }
 
-// A run whose workers are weighed by requests out. After each pick its lists are read from the memory that it was lent.
-fn replay_counted<B: Bare, R: Rng + Copy>(heap: Global, run: &Run, words: R, out: &mut String) -> Result<(), AnyError> {
+// Replays a run over its feed, in memory that is blank at first.
+fn replay_feed<D, R>(heap: Global, run: &Run, feed: D, words: R, workers: &[D::Service], blank: D::Service, out: &mut String) -> Result<(), AnyError>
+where
+    D: Discover<Key = Name, Error = u32> + Drop,
+    R: Rng + Drop,
+    D::Service: Worker,
+{
+    let entry = blank_entry(blank)?;
+    let mut ready = filled(heap, entry, run.places)?;
+    let mut pending = filled(heap, entry, run.places)?;
+    let mut records = filled(heap, DocketRecord { ticket: 0, serial: 0, sent: 0 }, run.records)?;
+    apply_all(run, feed, words, workers, ready.as_mut_slice(), pending.as_mut_slice(), records.as_mut_slice(), out)?;
+    Ok(())
+}
+
+// A run whose workers are weighed by requests out.
+fn replay_counted<B: Bare, R: Rng + Drop>(heap: Global, run: &Run, words: R, out: &mut String) -> Result<(), AnyError> {
     let answers = counted_feed::<B>(heap, bare_feed::<B>(heap, run)?.as_slice())?;
     let mut workers = Vec::new(heap);
     for pick in run.picks.iter() {
         workers.push(PendingRequests::new(B::of(pattern_of(*pick)?)))?;
     }
-    let blank = blank_entry(PendingRequests::new(B::of(valid(Patterned::new(&[]))?)))?;
-    let mut ready = filled(heap, blank, run.places)?;
-    let mut pending = filled(heap, blank, run.places)?;
-    let mut records = filled(heap, DocketRecord { ticket: 0, serial: 0, sent: 0 }, run.records)?;
-    let mut line = String::new(heap);
-    for last in 0..run.picks.len() {
-        let feed = ListFeed::new(answers.as_slice());
-        let lengths = apply_up_to(run, feed, words, workers.as_slice(), ready.as_mut_slice(), pending.as_mut_slice(), records.as_mut_slice(), last, &mut line)?;
-        out.push_str(line.as_str())?;
-        show_list(ready.as_slice(), lengths.ready, out)?;
-        show_list(pending.as_slice(), lengths.pending, out)?;
-        out.push('\n')?;
-    }
-    Ok(())
+    let blank = PendingRequests::new(B::of(valid(Patterned::new(&[]))?));
+    replay_feed(heap, run, ListFeed::new(answers.as_slice()), words, workers.as_slice(), blank, out)
 }
 
 // A run whose workers are weighed by response time.
-fn replay_timed<B: Bare, D: Decay, R: Rng + Copy>(heap: Global, run: &Run, decay: D, default_rtt: u64, decay_period: u64, words: R, out: &mut String) -> Result<(), AnyError> {
+fn replay_timed<B: Bare, D: Decay, R: Rng + Drop>(heap: Global, run: &Run, decay: D, default_rtt: u64, decay_period: u64, words: R, out: &mut String) -> Result<(), AnyError> {
     let answers = bare_feed::<B>(heap, run)?;
     let mut workers = Vec::new(heap);
     for pick in run.picks.iter() {
@@ -136,23 +140,12 @@ fn replay_timed<B: Bare, D: Decay, R: Rng + Copy>(heap: Global, run: &Run, decay
         workers.push(valid(PeakEwma::new(service, decay, default_rtt, decay_period, instant_of(*pick)))?)?;
     }
     let service = B::of(valid(Patterned::new(&[]))?);
-    let blank = blank_entry(valid(PeakEwma::new(service, decay, default_rtt, decay_period, 0))?)?;
-    let mut ready = filled(heap, blank, run.places)?;
-    let mut pending = filled(heap, blank, run.places)?;
-    let mut records = filled(heap, DocketRecord { ticket: 0, serial: 0, sent: 0 }, run.records)?;
-    let mut line = String::new(heap);
-    for last in 0..run.picks.len() {
-        let feed = valid(PeakEwmaDiscover::new(ListFeed::new(answers.as_slice()), decay, default_rtt, decay_period))?;
-        let lengths = apply_up_to(run, feed, words, workers.as_slice(), ready.as_mut_slice(), pending.as_mut_slice(), records.as_mut_slice(), last, &mut line)?;
-        out.push_str(line.as_str())?;
-        show_list(ready.as_slice(), lengths.ready, out)?;
-        show_list(pending.as_slice(), lengths.pending, out)?;
-        out.push('\n')?;
-    }
-    Ok(())
+    let blank = valid(PeakEwma::new(service, decay, default_rtt, decay_period, 0))?;
+    let feed = valid(PeakEwmaDiscover::new(ListFeed::new(answers.as_slice()), decay, default_rtt, decay_period))?;
+    replay_feed(heap, run, feed, words, workers.as_slice(), blank, out)
 }
 
-fn replay_words<B: Bare, R: Rng + Copy>(heap: Global, run: &Run, words: R, out: &mut String) -> Result<(), AnyError> {
+fn replay_words<B: Bare, R: Rng + Drop>(heap: Global, run: &Run, words: R, out: &mut String) -> Result<(), AnyError> {
     match run.measure {
         Measure::Count => replay_counted::<B, R>(heap, run, words, out),
         Measure::Halving(default, period) => replay_timed::<B, Halving, R>(heap, run, Halving, default, period, words, out),

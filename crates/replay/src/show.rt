@@ -17,6 +17,7 @@ use keys::naming::NameDisplay;
 use service::poll::Poll;
 use std::fmt;
 use std::fmt::Write;
+use std::slice::Iter;
 
 fn push_number(refusal: PushRefusal) -> u8 {
     match refusal {
@@ -107,10 +108,10 @@ pub fn show_check<S: Worker>(answer: Result<bool, Failed<Name, S::Error>>, out: 
     }
 }
 
-// Writes the first `len` entries of a list: key, serial, mark, count and estimate.
-pub fn show_list<S: Worker>(entries: &[Entry<Name, S>], len: usize, out: &mut String) -> fmt::Result {
+// Writes the entries of a list: key, serial, mark, count and estimate.
+pub fn show_list<S: Worker>(entries: Iter<'_, Entry<Name, S>>, out: &mut String) -> fmt::Result {
     write!(out, " |")?;
-    for entry in entries.iter().take(len) {
+    for entry in entries {
         let key = entry.key;
         let serial = entry.serial;
         let mark = if entry.cancelled { 'x' } else { '-' };

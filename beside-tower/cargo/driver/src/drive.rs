@@ -71,9 +71,6 @@ impl Seen for PeakEwma<Worker, Keep> {
 
     fn describe(&self) -> String {
         let (bits, at) = self.estimate();
-        if bits == 0 {
-            return format!("?:{bits:016x}:{at}");
-        }
         format!("{}:{bits:016x}:{at}", self.count())
     }
 }
