@@ -65,7 +65,7 @@ fn main() {
     for (measure, runs) in [("requests out", count), ("Peak-EWMA", time)] {
         for (name, unready, turnover) in shapes {
             for workers in [2, 8, 64, 512, 4096] {
-                let cycles = if workers > 64 { 4_000 } else { 40_000 };
+                let cycles = if workers > 512 { 20_000 } else { 40_000 };
                 let shape = Shape { workers, unready, turnover, cycles, out: 0 };
                 let name = format!("{measure}, {name}");
                 check(&name, runs, Shape { workers: workers.min(4000), ..shape });
@@ -77,8 +77,7 @@ fn main() {
     println!("| tickets out, 64 workers | number | ours, ns | tower as published, ns | reference, ns | published / ours | reference / ours |");
     println!("|---|---:|---:|---:|---:|---:|---:|");
     for out in [0, 16, 256, 4096, 65_535] {
-        let cycles = if out > 256 { 4_000 } else { 40_000 };
-        let shape = Shape { workers: 64, unready: 0, turnover: 0, cycles: cycles + out, out };
+        let shape = Shape { workers: 64, unready: 0, turnover: 0, cycles: 40_000, out };
         tickets(count, shape);
     }
     let (counted, timed, record) = ours::bytes();
@@ -89,7 +88,7 @@ fn main() {
 fn tickets(runs: [Run; 3], shape: Shape) {
     let mut times = [Vec::new(), Vec::new(), Vec::new()];
     let first = FIRST + shape.out;
-    let cycles = shape.cycles - shape.out;
+    let cycles = shape.cycles;
     for _ in 0..ROUNDS {
         for (run, times) in runs.iter().zip(times.iter_mut()) {
             let begun = seconds(*run, Shape { cycles: first, ..shape });
