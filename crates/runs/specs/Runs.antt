@@ -1,0 +1,42 @@
+-- A whole run, from what it is handed, and what it gives back.
+use mathlib.Core.Path.{_≡_}
+use mathlib.Core.List.{List}
+use Prim.Native.Nat.{ℕ}
+use lib.ListN.{length}
+use Rattle.std.specs.declared.alloc.Global.{Global}
+use Rattle.std.specs.Of.Vec.{vec-items}
+use Rattle.cache_model.specs.Cache.{capacity-of}
+use Rattle.balance_model.specs.declared.pick.Pick.{Pick}
+use Rattle.balance_model.specs.Docket.{docket-capacity}
+use Rattle.balance_model.specs.Meanings.{Meanings}
+use Rattle.balance_model.specs.Balance.{Making}
+use Rattle.balance_model.specs.History.{Run, starting, apply-all, answers-of}
+use Rattle.balance.specs.View.{view}
+use Rattle.runs.specs.declared.ran.Ran.{Ran}
+
+-- what a run is made from: the lengths of the memory, feed, words, budget, first serial and first ticket
+abbrev pub making : {D R : Type 0} → ℕ → ℕ → ℕ → D → R → ℕ → ℕ → ℕ → Making D R
+making ready pending records feed words budget first-serial first-ticket = record {
+  cache-capacity = capacity-of ready pending;
+  docket-capacity = docket-capacity records;
+  first-serial = first-serial;
+  first-ticket = first-ticket;
+  feed = feed;
+  words = words;
+  budget = budget;
+}
+
+-- the run of the model: the picks applied in order to a newly made balancer, cache and docket
+abbrev pub whole-run : {K S Q A E W D F R : Type 0} → Meanings K S Q A E W D F R → Making D R → List (Pick Q) → Run K S A E D F R
+whole-run m made picks = apply-all m (starting made) picks
+
+-- what is given back is what the run of the model answered and left
+pub record Ran-as {K S A E D F R : Type 0} (x : Ran K S A D F R) (run : Run K S A E D F R) : Type 0 where
+  pub answers : vec-items (x .answers) ≡ answers-of (run .history)
+  pub balancer : view (x .balance) ≡ run .state .balancer
+  pub ready : vec-items (x .ready) ≡ run .state .cache .ready
+  pub pending : vec-items (x .pending) ≡ run .state .cache .pending
+  pub resume : x .resume ≡ run .state .cache .resume
+  pub next-serial : x .«next_serial» ≡ run .state .cache .next
+  pub records : vec-items (x .records) ≡ run .state .docket .records
+  pub next-ticket : x .«next_ticket» ≡ run .state .docket .next
