@@ -1,16 +1,17 @@
 -- A whole run, from what it is handed, and what it gives back.
 use mathlib.Core.Path.{_≡_}
-use mathlib.Core.List.{List}
+use mathlib.Core.List.{List, []}
 use Prim.Native.Nat.{ℕ}
 use lib.ListN.{length}
-use Rattle.std.specs.declared.alloc.Global.{Global}
 use Rattle.std.specs.Of.Vec.{vec-items}
-use Rattle.cache_model.specs.Cache.{capacity-of}
+use Rattle.cache_model.specs.Cache.{Cache, capacity-of}
 use Rattle.balance_model.specs.declared.pick.Pick.{Pick}
-use Rattle.balance_model.specs.Docket.{docket-capacity}
+use Rattle.balance_model.specs.declared.pick.Answer.{Answer}
+use Rattle.balance_model.specs.Docket.{Docket, docket-capacity}
 use Rattle.balance_model.specs.Meanings.{Meanings}
-use Rattle.balance_model.specs.Balance.{Making}
+use Rattle.balance_model.specs.Balance.{Making, State}
 use Rattle.balance_model.specs.History.{Run, starting, apply-all, answers-of}
+use Rattle.balance.specs.declared.balance.Balance.{Balance}
 use Rattle.balance.specs.View.{view}
 use Rattle.runs.specs.declared.ran.Ran.{Ran}
 
@@ -29,6 +30,26 @@ making ready pending records feed words budget first-serial first-ticket = recor
 -- the run of the model: the picks applied in order to a newly made balancer, cache and docket
 abbrev pub whole-run : {K S Q A E W D F R : Type 0} → Meanings K S Q A E W D F R → Making D R → List (Pick Q) → Run K S A E D F R
 whole-run m made picks = apply-all m (starting made) picks
+
+-- answers and state are those of a run of the model
+pub record Applied {K S A E D F R : Type 0} (given : List (Answer K A F)) (st : State K S D R) (run : Run K S A E D F R) : Type 0 where
+  pub answers : given ≡ answers-of (run .history)
+  pub state : st ≡ run .state
+
+-- a run that begins at a state
+abbrev pub from-state : {K S A E D F R : Type 0} → State K S D R → Run K S A E D F R
+from-state st = record { state = st; history = [] }
+
+-- what is given back, by the parts that it was put together from
+pub record Closing {K S A D F R : Type 0} (x : Ran K S A D F R) (given : List (Answer K A F)) (b : Balance D R) (c : Cache K S) (d : Docket) : Type 0 where
+  pub answers : vec-items (x .answers) ≡ given
+  pub balance : x .balance ≡ b
+  pub ready : vec-items (x .ready) ≡ c .ready
+  pub pending : vec-items (x .pending) ≡ c .pending
+  pub resume : x .resume ≡ c .resume
+  pub next-serial : x .«next_serial» ≡ c .next
+  pub records : vec-items (x .records) ≡ d .records
+  pub next-ticket : x .«next_ticket» ≡ d .next
 
 -- what is given back is what the run of the model answered and left
 pub record Ran-as {K S A E D F R : Type 0} (x : Ran K S A D F R) (run : Run K S A E D F R) : Type 0 where

@@ -4,6 +4,7 @@ use balance_model::docket_record::DocketRecord;
 use balance_model::pick::Answer;
 use cache_model::entry::Entry;
 
+#[derive(Drop)]
 pub struct Ran<K, S, A, D, F, R> {
     pub answers: Vec<Answer<K, A, F>>,
     pub balance: Balance<D, R>,
