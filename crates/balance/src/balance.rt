@@ -1,4 +1,5 @@
 // A two-choice balancer over a feed and a source of words.
+#[derive(Drop)]
 pub struct Balance<D, R> {
     pub(crate) discover: D,
     pub(crate) rng: R,

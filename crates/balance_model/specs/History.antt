@@ -54,23 +54,21 @@ pub record Run (K S A E D F R : Type 0) : Type 0 where
   pub history : History K S A E F
 
 module _ {K S Q A E W D F R : Type 0} (m : Meanings K S Q A E W D F R) where
+  -- what comes of a pick
+  abbrev pub event : State K S D R → Pick Q → Event K S A E F
+  event st (pick.Poll at) = let p = poll m at (st .balancer) (st .cache) in polled at (p .log) (p .answer)
+  event st (pick.Call request at) = called at (call m at st request .answer)
+  event st (pick.Complete ticket at) = completed at ticket (complete (m .endpoints) at (st .cache) (st .docket) ticket .answer)
+
+  -- the three afterwards
+  abbrev pub after : State K S D R → Pick Q → State K S D R
+  after st (pick.Poll at) = let p = poll m at (st .balancer) (st .cache) in record { balancer = p .balancer; cache = p .cache; docket = st .docket }
+  after st (pick.Call request at) = call m at st request .after
+  after st (pick.Complete ticket at) = let c = complete (m .endpoints) at (st .cache) (st .docket) ticket in record { balancer = st .balancer; cache = c .cache; docket = c .docket }
+
   -- one pick more
   abbrev pub apply : Run K S A E D F R → Pick Q → Run K S A E D F R
-  apply run (pick.Poll at) =
-      let p = poll m at (run .state .balancer) (run .state .cache) in
-      record {
-        state = record { balancer = p .balancer; cache = p .cache; docket = run .state .docket };
-        history = polled at (p .log) (p .answer) ∷ run .history;
-      }
-  apply run (pick.Call request at) =
-      let c = call m at (run .state) request in
-      record { state = c .after; history = called at (c .answer) ∷ run .history }
-  apply run (pick.Complete ticket at) =
-      let c = complete (m .endpoints) at (run .state .cache) (run .state .docket) ticket in
-      record {
-        state = record { balancer = run .state .balancer; cache = c .cache; docket = c .docket };
-        history = completed at ticket (c .answer) ∷ run .history;
-      }
+  apply run p = record { state = after (run .state) p; history = event (run .state) p ∷ run .history }
 
   abbrev pub apply-all : Run K S A E D F R → List (Pick Q) → Run K S A E D F R
   apply-all run [] = run

@@ -3,6 +3,7 @@ ghost use mathlib.Core.Path.{_≡_};
 ghost use Prim.Native.Nat.{ℕ, _≤_, min};
 ghost use lib.Dec.{eqb};
 ghost use lib.ListN.{length};
+ghost use Rattle.std.specs.Parts.{iter-rest};
 ghost use Rattle.model.specs.Options.{by-some};
 ghost use Rattle.model.specs.Lists.{at as item-at};
 ghost use Rattle.std.specs.declared.option.Option.the-variants.{None, Some};
@@ -17,6 +18,7 @@ mod ticket;
 use balance_model::answer::DocketRefusal;
 use balance_model::docket_record::DocketRecord;
 use docket::Docket;
+use std::slice::Iter;
 use ticket::OfTicket;
 use ticket::TestOfTicket;
 
@@ -77,6 +79,14 @@ impl<'a> Docket<'a> {
     {
         let len = self.end();
         lists::get(self.records, len, i)
+    }
+
+    // The records, in order.
+    pub fn iter(&self) -> Iter<'_, DocketRecord>
+        ensures { λ r. ⌜ iter-rest r ≡ view (now (self .entry)) .records ⌝ }
+    {
+        let len = self.end();
+        self.records[0..len].iter()
     }
 
     // The place of the ticket's record.

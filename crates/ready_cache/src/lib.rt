@@ -9,6 +9,7 @@ ghost use Rattle.model.specs.Options.{by-some};
 ghost use Rattle.model.specs.Lists.{at as item-at};
 ghost use Rattle.cache_model.specs.Entries.{any-live, ready-place};
 ghost use Rattle.cache_model.specs.Cache.{Cache, capacity-of, new-cache, held};
+ghost use Rattle.cache_model.specs.Laws.{Always-lawful};
 ghost use Rattle.ready_cache.specs.View.{view, stored};
 
 pub mod cache;
@@ -24,6 +25,7 @@ use entries::wanted::LiveOf;
 use entries::wanted::OfKey;
 use entries::wanted::TestLiveOf;
 use entries::wanted::TestOfKey;
+use service::Endpoint;
 use service::Key;
 use std::slice::Iter;
 
@@ -37,7 +39,7 @@ struct Lengths {
 
 impl<'a, K: Copy, S: Copy> ReadyCache<'a, K, S> {
     // An empty cache in this memory, whose first worker gets this serial.
-    pub fn new(
+    fn empty(
         ready: &'a mut [Entry<K, S>],
         pending: &'a mut [Entry<K, S>],
         first_serial: u64,
@@ -128,6 +130,25 @@ impl<'a, K: Copy, S: Copy> ReadyCache<'a, K, S> {
         let l = self.lengths();
         let end = l.ready;
         self.ready[0..end].iter()
+    }
+
+    // The pending entries, in order.
+    pub fn iter_pending(&self) -> Iter<'_, Entry<K, S>>
+        ensures { λ r. ⌜ iter-rest r ≡ view (now (self .entry)) .pending ⌝ }
+    {
+        let l = self.lengths();
+        let end = l.pending;
+        self.pending[0..end].iter()
+    }
+}
+
+impl<'a, K: Key, S: Endpoint> ReadyCache<'a, K, S> {
+    // An empty cache in this memory, whose first worker gets this serial; whatever is called then, its laws hold.
+    pub fn new(ready: &'a mut [Entry<K, S>], pending: &'a mut [Entry<K, S>], first_serial: u64) -> Self
+        ensures made { λ r. ⌜ view r ≡ new-cache (capacity-of (length (now (ready .entry))) (length (now (pending .entry)))) «first_serial» ⌝ }
+        ensures lawful { λ r. ⌜ Always-lawful sameness means (view r) ⌝ }
+    {
+        ReadyCache::empty(ready, pending, first_serial)
     }
 }
 
