@@ -39,6 +39,7 @@ use workers::patterning::PatternedService;
 const STEP: u64 = 1_000;
 
 const DEFAULT_RTT: u64 = 1_000_000_000;
+
 const DECAY_PERIOD: u64 = 10_000_000_000;
 
 // How many workers, of which each so-manieth is never ready; in each so-manieth cycle one leaves and comes back; cycles; tickets that stay out. None is 0.
@@ -58,12 +59,19 @@ fn falls_on(number: u32, of: u32) -> bool {
 
 // The service of a key.
 fn service(key: u32, shape: Shape) -> Option<Patterned> {
-    let pattern = if falls_on(key, shape.unready) { Answer::Pending } else { Answer::Ready };
+    let pattern = if falls_on(key, shape.unready) {
+        Answer::Pending
+    } else {
+        Answer::Ready
+    };
     Patterned::new(&[pattern]).ok()
 }
 
 // The answers of the feed: first all workers.
-fn arrivals(heap: Global, shape: Shape) -> Result<Vec<Discovered<u32, Patterned, u32>>, AllocError> {
+fn arrivals(
+    heap: Global,
+    shape: Shape,
+) -> Result<Vec<Discovered<u32, Patterned, u32>>, AllocError> {
     let mut answers = Vec::new(heap);
     for key in 0..shape.workers {
         if let Some(worker) = service(key, shape) {
@@ -74,11 +82,16 @@ fn arrivals(heap: Global, shape: Shape) -> Result<Vec<Discovered<u32, Patterned,
 }
 
 // And then, over and over, those that leave and come back.
-fn turnover(heap: Global, shape: Shape) -> Result<Vec<Discovered<u32, Patterned, u32>>, AllocError> {
+fn turnover(
+    heap: Global,
+    shape: Shape,
+) -> Result<Vec<Discovered<u32, Patterned, u32>>, AllocError> {
     let mut answers = Vec::new(heap);
     for cycle in 0..shape.turnover.saturating_mul(shape.workers) {
         let key = cycle % shape.workers.max(1);
-        if falls_on(cycle, shape.turnover) && let Some(worker) = service(key, shape) {
+        if falls_on(cycle, shape.turnover)
+            && let Some(worker) = service(key, shape)
+        {
             answers.push(Discovered::Remove(key))?;
             answers.push(Discovered::Insert(key, worker))?;
         }
@@ -88,16 +101,24 @@ fn turnover(heap: Global, shape: Shape) -> Result<Vec<Discovered<u32, Patterned,
 }
 
 // The same with workers weighed by requests out.
-fn counted_feed(heap: Global, bare: &[Discovered<u32, Patterned, u32>]) -> Result<Vec<Discovered<u32, PendingRequests<Patterned>, u32>>, AllocError> {
+fn counted_feed(
+    heap: Global,
+    bare: &[Discovered<u32, Patterned, u32>],
+) -> Result<Vec<Discovered<u32, PendingRequests<Patterned>, u32>>, AllocError> {
     let mut answers = Vec::new(heap);
     for answer in bare {
-        answers.push(match *answer {
-            Discovered::Pending => Discovered::Pending,
-            Discovered::End => Discovered::End,
-            Discovered::Fault(error) => Discovered::Fault(error),
-            Discovered::Insert(key, service) => Discovered::Insert(key, PendingRequests::new(service)),
-            Discovered::Remove(key) => Discovered::Remove(key),
-        })?;
+        answers.push(
+            match *answer {
+                Discovered::Pending => Discovered::Pending,
+                Discovered::End => Discovered::End,
+                Discovered::Fault(error) => Discovered::Fault(error),
+                Discovered::Insert(key, service) => Discovered::Insert(
+                    key,
+                    PendingRequests::new(service),
+                ),
+                Discovered::Remove(key) => Discovered::Remove(key),
+            },
+        )?;
     }
     Ok(answers)
 }
@@ -112,7 +133,13 @@ fn filled<T: Copy>(heap: Global, value: T, count: u32) -> Result<Vec<T>, AllocEr
 }
 
 // One cycle: a poll, a call, and the completion of the ticket that was given `late` calls before. Answers the serial that was named, and the response.
-fn cycle<D, R>(balance: &mut Balance<D, R>, cache: &mut ReadyCache<'_, u32, D::Service>, docket: &mut Docket<'_>, late: u64, at: u64) -> u64
+fn cycle<D, R>(
+    balance: &mut Balance<D, R>,
+    cache: &mut ReadyCache<'_, u32, D::Service>,
+    docket: &mut Docket<'_>,
+    late: u64,
+    at: u64,
+) -> u64
 where
     D: Discover<Key = u32, Error = u32>,
     R: Rng,
@@ -132,70 +159,129 @@ where
     named.wrapping_add(response)
 }
 
-// All cycles, over a feed; answers the sum of what they answer.
-fn run<D>(feed: D, memory: (&mut [Entry<u32, D::Service>], &mut [Entry<u32, D::Service>], &mut [DocketRecord]), shape: Shape) -> u64
+// All cycles, over a feed, in memory that is blank at first; answers the sum of what they answer.
+fn run<D>(heap: Global, feed: D, blank: D::Service, shape: Shape) -> Result<u64, AllocError>
 where
     D: Discover<Key = u32, Error = u32> + Drop,
     D::Service: Endpoint<Request = u32, Response = u64>,
 {
-    let (ready, pending, records) = memory;
-    let mut cache = ReadyCache::new(ready, pending, 1);
-    let mut docket = Docket::new(records, 1);
+    let entry = Entry {
+        key: 0,
+        endpoint: blank,
+        serial: 0,
+        cancelled: false,
+    };
+    let record = DocketRecord {
+        ticket: 0,
+        serial: 0,
+        sent: 0,
+    };
+    let room = shape.workers.saturating_mul(2).saturating_add(2);
+    let mut ready = filled(heap, entry, room)?;
+    let mut pending = filled(heap, entry, room)?;
+    let mut records = filled(heap, record, shape.out.saturating_add(1))?;
+    let mut cache = ReadyCache::new(ready.as_mut_slice(), pending.as_mut_slice(), 1);
+    let mut docket = Docket::new(records.as_mut_slice(), 1);
     let mut balance = Balance::from_rng(feed, HasherRng::new(), 4096);
     let mut sum: u64 = 0;
     for i in 0..shape.cycles {
-        let answer = cycle(&mut balance, &mut cache, &mut docket, u64::from(shape.out), u64::from(i) * STEP);
+        let at = u64::from(i) * STEP;
+        let answer = cycle(
+            &mut balance,
+            &mut cache,
+            &mut docket,
+            u64::from(shape.out),
+            at,
+        );
         sum = sum.wrapping_add(answer);
     }
-    sum
+    Ok(sum)
 }
 
-fn run_counted(heap: Global, shape: Shape, blank: PendingRequests<Patterned>) -> Result<u64, AllocError> {
+fn run_counted(
+    heap: Global,
+    shape: Shape,
+    blank: PendingRequests<Patterned>,
+) -> Result<u64, AllocError> {
     let first = counted_feed(heap, arrivals(heap, shape)?.as_slice())?;
     let round = counted_feed(heap, turnover(heap, shape)?.as_slice())?;
-    let entry = Entry { key: 0u32, endpoint: blank, serial: 0, cancelled: false };
-    let room = shape.workers.saturating_mul(2).saturating_add(2);
-    let mut ready = filled(heap, entry, room)?;
-    let mut pending = filled(heap, entry, room)?;
-    let mut records = filled(heap, DocketRecord { ticket: 0, serial: 0, sent: 0 }, shape.out.saturating_add(1))?;
-    let feed = Repeated { round: ListFeed::new(round.as_slice()), rest: ListFeed::new(first.as_slice()) };
-    Ok(run(feed, (ready.as_mut_slice(), pending.as_mut_slice(), records.as_mut_slice()), shape))
+    let feed = Repeated {
+        round: ListFeed::new(round.as_slice()),
+        rest: ListFeed::new(first.as_slice()),
+    };
+    run(heap, feed, blank, shape)
 }
 
-fn run_timed(heap: Global, shape: Shape, blank: PeakEwma<Patterned, Squaring>) -> Result<u64, AllocError> {
+fn run_timed(
+    heap: Global,
+    shape: Shape,
+    blank: PeakEwma<Patterned, Squaring>,
+) -> Result<u64, AllocError> {
     let first = arrivals(heap, shape)?;
     let round = turnover(heap, shape)?;
-    let entry = Entry { key: 0u32, endpoint: blank, serial: 0, cancelled: false };
-    let room = shape.workers.saturating_mul(2).saturating_add(2);
-    let mut ready = filled(heap, entry, room)?;
-    let mut pending = filled(heap, entry, room)?;
-    let mut records = filled(heap, DocketRecord { ticket: 0, serial: 0, sent: 0 }, shape.out.saturating_add(1))?;
-    let feed = Repeated { round: ListFeed::new(round.as_slice()), rest: ListFeed::new(first.as_slice()) };
+    let feed = Repeated {
+        round: ListFeed::new(round.as_slice()),
+        rest: ListFeed::new(first.as_slice()),
+    };
     let Ok(feed) = PeakEwmaDiscover::new(feed, Squaring, DEFAULT_RTT, DECAY_PERIOD) else {
         return Ok(0);
     };
-    Ok(run(feed, (ready.as_mut_slice(), pending.as_mut_slice(), records.as_mut_slice()), shape))
+    run(heap, feed, blank, shape)
 }
 
 // Cycles with workers weighed by requests out; answers a sum over all of them, and 0 where there is no memory.
 #[unsafe(no_mangle)]
-pub extern "C" fn cycles_by_count(heap: Global, workers: u32, unready: u32, turnover: u32, cycles: u32, out: u32) -> u64 {
+pub extern "C" fn cycles_by_count(
+    heap: Global,
+    workers: u32,
+    unready: u32,
+    turnover: u32,
+    cycles: u32,
+    out: u32,
+) -> u64 {
     let Ok(service) = Patterned::new(&[]) else {
         return 0;
     };
-    run_counted(heap, Shape { workers, unready, turnover, cycles, out }, PendingRequests::new(service)).unwrap_or(0)
+    run_counted(
+        heap,
+        Shape {
+            workers,
+            unready,
+            turnover,
+            cycles,
+            out,
+        },
+        PendingRequests::new(service),
+    ).unwrap_or(0)
 }
 
 // The same with workers weighed by response time.
 #[unsafe(no_mangle)]
-pub extern "C" fn cycles_by_time(heap: Global, workers: u32, unready: u32, turnover: u32, cycles: u32, out: u32) -> u64 {
+pub extern "C" fn cycles_by_time(
+    heap: Global,
+    workers: u32,
+    unready: u32,
+    turnover: u32,
+    cycles: u32,
+    out: u32,
+) -> u64 {
     let Ok(service) = Patterned::new(&[]) else {
         return 0;
     };
     let Ok(blank) = PeakEwma::new(service, Squaring, DEFAULT_RTT, DECAY_PERIOD, 0) else {
         return 0;
     };
-    run_timed(heap, Shape { workers, unready, turnover, cycles, out }, blank).unwrap_or(0)
+    run_timed(
+        heap,
+        Shape {
+            workers,
+            unready,
+            turnover,
+            cycles,
+            out,
+        },
+        blank,
+    ).unwrap_or(0)
 }
 
 // The bytes of an entry weighed by requests out.

@@ -6,7 +6,9 @@ use discover::discovered::Discovered;
 
 pub impl<D: Discover + Copy> Discover for Repeated<D> as RepeatedDiscover {
     type Key = D::Key;
+
     type Service = D::Service;
+
     type Error = D::Error;
 
     ghost feeds = { repeating (D·Discover .feeds) };

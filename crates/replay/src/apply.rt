@@ -27,7 +27,13 @@ use std::fmt;
 use std::fmt::Write;
 
 // Hands a request to the ready worker at a place, and notes it.
-fn send<S: Worker>(cache: &mut ReadyCache<'_, Name, S>, docket: &mut Docket<'_>, place: Option<usize>, number: u64, at: u64) -> Result<(u64, S::Response), CallError> {
+fn send<S: Worker>(
+    cache: &mut ReadyCache<'_, Name, S>,
+    docket: &mut Docket<'_>,
+    place: Option<usize>,
+    number: u64,
+    at: u64,
+) -> Result<(u64, S::Response), CallError> {
     let Some(i) = place else {
         return Err(CallError::Cache(CallRefusal::NotReady));
     };
@@ -40,7 +46,13 @@ fn send<S: Worker>(cache: &mut ReadyCache<'_, Name, S>, docket: &mut Docket<'_>,
 }
 
 // A call of the cache itself; `worker` is what a push takes in.
-fn apply_to_cache<S: Worker>(pick: Pick, worker: S, cache: &mut ReadyCache<'_, Name, S>, docket: &mut Docket<'_>, out: &mut String) -> fmt::Result {
+fn apply_to_cache<S: Worker>(
+    pick: Pick,
+    worker: S,
+    cache: &mut ReadyCache<'_, Name, S>,
+    docket: &mut Docket<'_>,
+    out: &mut String,
+) -> fmt::Result {
     match pick {
         Pick::Push { key, .. } => match cache.push(key, worker) {
             Ok(serial) => write!(out, "pushed {serial}"),
@@ -56,7 +68,10 @@ fn apply_to_cache<S: Worker>(pick: Pick, worker: S, cache: &mut ReadyCache<'_, N
         }
         Pick::Check { at, place } => show_check::<S>(cache.check_ready_index(place, at), out),
         Pick::CheckKey { at, key } => show_check::<S>(cache.check_ready(&key, at), out),
-        Pick::Send { at, place, request } => show_call::<S>(send(cache, docket, Some(place), request, at), out),
+        Pick::Send { at, place, request } => show_call::<S>(
+            send(cache, docket, Some(place), request, at),
+            out,
+        ),
         Pick::SendKey { at, key, request } => {
             let place = cache.ready_index(&key);
             show_call::<S>(send(cache, docket, place, request, at), out)
@@ -66,7 +81,14 @@ fn apply_to_cache<S: Worker>(pick: Pick, worker: S, cache: &mut ReadyCache<'_, N
 }
 
 // Applies a pick, and writes what it answers.
-fn apply<D, R>(pick: Pick, worker: D::Service, balance: &mut Balance<D, R>, cache: &mut ReadyCache<'_, Name, D::Service>, docket: &mut Docket<'_>, out: &mut String) -> fmt::Result
+fn apply<D, R>(
+    pick: Pick,
+    worker: D::Service,
+    balance: &mut Balance<D, R>,
+    cache: &mut ReadyCache<'_, Name, D::Service>,
+    docket: &mut Docket<'_>,
+    out: &mut String,
+) -> fmt::Result
 where
     D: Discover<Key = Name, Error = u32>,
     R: Rng,

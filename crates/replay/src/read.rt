@@ -45,11 +45,13 @@ fn worker(heap: Global, words: &mut SplitWhitespace<'_>) -> Result<Patterned, An
         Some(letters) => {
             if letters != "none" {
                 for letter in letters.as_bytes() {
-                    pattern.push(match *letter {
-                        b'r' => Answer::Ready,
-                        b'p' => Answer::Pending,
-                        _ => Answer::Failed,
-                    })?;
+                    pattern.push(
+                        match *letter {
+                            b'r' => Answer::Ready,
+                            b'p' => Answer::Pending,
+                            _ => Answer::Failed,
+                        },
+                    )?;
                 }
             }
         }
@@ -126,7 +128,11 @@ impl Run {
 }
 
 // An answer of the feed.
-fn answer(heap: Global, first: &str, words: &mut SplitWhitespace<'_>) -> Result<Discovered<Name, Patterned, u32>, AnyError> {
+fn answer(
+    heap: Global,
+    first: &str,
+    words: &mut SplitWhitespace<'_>,
+) -> Result<Discovered<Name, Patterned, u32>, AnyError> {
     match first {
         "insert" => Ok(Discovered::Insert(name(words)?, worker(heap, words)?)),
         "remove" => Ok(Discovered::Remove(name(words)?)),
@@ -136,6 +142,7 @@ fn answer(heap: Global, first: &str, words: &mut SplitWhitespace<'_>) -> Result<
     }
 }
 
+// A call of the balancer, or of its cache.
 fn pick(heap: Global, first: &str, words: &mut SplitWhitespace<'_>) -> Result<Pick, AnyError> {
     if first == "evict" {
         return Ok(Pick::Evict { key: name(words)? });
@@ -143,14 +150,50 @@ fn pick(heap: Global, first: &str, words: &mut SplitWhitespace<'_>) -> Result<Pi
     let at = number(words)?;
     match first {
         "poll" => Ok(Pick::Poll { at }),
-        "call" => Ok(Pick::Call { at, request: number(words)? }),
-        "done" => Ok(Pick::Done { at, ticket: number(words)? }),
-        "push" => Ok(Pick::Push { at, key: name(words)?, worker: worker(heap, words)? }),
+        "call" => Ok(Pick::Call {
+            at,
+            request: number(words)?,
+        }),
+        "done" => Ok(Pick::Done {
+            at,
+            ticket: number(words)?,
+        }),
+        _ => cache_pick(heap, first, at, words),
+    }
+}
+
+// A call of the cache at an instant.
+fn cache_pick(
+    heap: Global,
+    first: &str,
+    at: u64,
+    words: &mut SplitWhitespace<'_>,
+) -> Result<Pick, AnyError> {
+    match first {
+        "push" => Ok(Pick::Push {
+            at,
+            key: name(words)?,
+            worker: worker(heap, words)?,
+        }),
         "pass" => Ok(Pick::Pass { at }),
-        "check" => Ok(Pick::Check { at, place: size(words)? }),
-        "checkkey" => Ok(Pick::CheckKey { at, key: name(words)? }),
-        "send" => Ok(Pick::Send { at, place: size(words)?, request: number(words)? }),
-        "sendkey" => Ok(Pick::SendKey { at, key: name(words)?, request: number(words)? }),
+        "check" => Ok(Pick::Check {
+            at,
+            place: size(words)?,
+        }),
+        "checkkey" => Ok(Pick::CheckKey {
+            at,
+            key: name(words)?,
+        }),
+        "send" => Ok(Pick::Send {
+            at,
+            place: size(words)?,
+            request: number(words)?,
+        }),
+        "sendkey" => Ok(Pick::SendKey {
+            at,
+            key: name(words)?,
+            request: number(words)?,
+        }),
         _ => Err("no such line".into()),
     }
 }

@@ -14,16 +14,46 @@ pub enum Measure {
 // A call of the balancer or of its cache; a paced worker has no pattern.
 #[derive(Clone, Copy)]
 pub enum Pick {
-    Poll { at: u64 },
-    Call { at: u64, request: u64 },
-    Done { at: u64, ticket: u64 },
-    Push { at: u64, key: Name, worker: Patterned },
-    Evict { key: Name },
-    Pass { at: u64 },
-    Check { at: u64, place: usize },
-    CheckKey { at: u64, key: Name },
-    Send { at: u64, place: usize, request: u64 },
-    SendKey { at: u64, key: Name, request: u64 },
+    Poll {
+        at: u64,
+    },
+    Call {
+        at: u64,
+        request: u64,
+    },
+    Done {
+        at: u64,
+        ticket: u64,
+    },
+    Push {
+        at: u64,
+        key: Name,
+        worker: Patterned,
+    },
+    Evict {
+        key: Name,
+    },
+    Pass {
+        at: u64,
+    },
+    Check {
+        at: u64,
+        place: usize,
+    },
+    CheckKey {
+        at: u64,
+        key: Name,
+    },
+    Send {
+        at: u64,
+        place: usize,
+        request: u64,
+    },
+    SendKey {
+        at: u64,
+        key: Name,
+        request: u64,
+    },
 }
 
 #[derive(Drop)]

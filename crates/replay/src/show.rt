@@ -64,7 +64,10 @@ pub fn show_unpushed(error: PushError<Name>, out: &mut String) -> fmt::Result {
     write!(out, "fault {number} {key}")
 }
 
-pub fn show_call<S: Worker>(answer: Result<(u64, S::Response), CallError>, out: &mut String) -> fmt::Result {
+pub fn show_call<S: Worker>(
+    answer: Result<(u64, S::Response), CallError>,
+    out: &mut String,
+) -> fmt::Result {
     match answer {
         Ok((ticket, response)) => {
             let response = S::response(response);
@@ -91,7 +94,11 @@ pub fn show_failed<S: Worker>(failed: Failed<Name, S::Error>, out: &mut String) 
     write!(out, "fault 11 {key} {place}")
 }
 
-pub fn show_pass<S: Worker>(answer: Result<Poll<()>, PendingError<Name, S::Error>>, resume: usize, out: &mut String) -> fmt::Result {
+pub fn show_pass<S: Worker>(
+    answer: Result<Poll<()>, PendingError<Name, S::Error>>,
+    resume: usize,
+    out: &mut String,
+) -> fmt::Result {
     match answer {
         Ok(Poll::Ready(())) => write!(out, "ready")?,
         Ok(Poll::Pending) => write!(out, "pending")?,
@@ -101,7 +108,10 @@ pub fn show_pass<S: Worker>(answer: Result<Poll<()>, PendingError<Name, S::Error
     write!(out, " {resume}")
 }
 
-pub fn show_check<S: Worker>(answer: Result<bool, Failed<Name, S::Error>>, out: &mut String) -> fmt::Result {
+pub fn show_check<S: Worker>(
+    answer: Result<bool, Failed<Name, S::Error>>,
+    out: &mut String,
+) -> fmt::Result {
     match answer {
         Ok(ready) => write!(out, "{ready}"),
         Err(failed) => show_failed::<S>(failed, out),

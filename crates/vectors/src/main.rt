@@ -37,15 +37,26 @@ fn hex(heap: Global, bits: u64) -> Result<String, AnyError> {
 }
 
 // The share that a decay keeps after a time, in periods.
-fn share<D: Decay>(heap: Global, decay: D, words: &mut SplitWhitespace<'_>) -> Result<String, AnyError> {
+fn share<D: Decay>(
+    heap: Global,
+    decay: D,
+    words: &mut SplitWhitespace<'_>,
+) -> Result<String, AnyError> {
     let elapsed = nanos(number(words)?);
     let period = nanos(number(words)?);
     hex(heap, f64_to_bits_with_nan(decay.decay(-elapsed / period)))
 }
 
 // The estimate that starts as a default at the instant 0, after a response.
-fn estimate<D: Decay>(heap: Global, decay: D, words: &mut SplitWhitespace<'_>) -> Result<String, AnyError> {
-    let mut estimate = RttEstimate { rtt_ns: nanos(number(words)?), update_at: 0 };
+fn estimate<D: Decay>(
+    heap: Global,
+    decay: D,
+    words: &mut SplitWhitespace<'_>,
+) -> Result<String, AnyError> {
+    let mut estimate = RttEstimate {
+        rtt_ns: nanos(number(words)?),
+        update_at: 0,
+    };
     let period = number(words)?;
     let sent = number(words)?;
     estimate.update(&decay, period, sent, number(words)?);
@@ -81,8 +92,18 @@ fn answer(heap: Global, line: &str) -> Result<String, AnyError> {
     match word(&mut words)? {
         "fnv" => hex(heap, fnv1a(words.next().unwrap_or("").as_bytes())),
         "word" => nth_word(heap, number(&mut words)?),
-        "range" => in_range(heap, number(&mut words)?, number(&mut words)?, number(&mut words)?),
-        "sample" => sample(heap, number(&mut words)?, number(&mut words)?, number(&mut words)?),
+        "range" => in_range(
+            heap,
+            number(&mut words)?,
+            number(&mut words)?,
+            number(&mut words)?,
+        ),
+        "sample" => sample(
+            heap,
+            number(&mut words)?,
+            number(&mut words)?,
+            number(&mut words)?,
+        ),
         "nanos" => hex(heap, f64_to_bits_with_nan(nanos(number(&mut words)?))),
         "halving" => share(heap, Halving, &mut words),
         "squaring" => share(heap, Squaring, &mut words),

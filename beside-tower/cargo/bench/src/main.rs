@@ -4,17 +4,35 @@ mod cycles;
 
 use cycles::{as_published, as_reference, ours, Shape};
 use std::hint::black_box;
-use std::time::Instant;
 
 const ROUNDS: usize = 7;
 const FIRST: u32 = 200;
 
 type Run = fn(Shape) -> u64;
 
+#[repr(C)]
+struct Timespec {
+    seconds: i64,
+    nanos: i64,
+}
+
+extern "C" {
+    fn clock_gettime(clock: i32, time: *mut Timespec) -> i32;
+}
+
+/// The processor time that this process has taken, in seconds: other work on the machine is not in it.
+fn processor_time() -> f64 {
+    const CLOCK_PROCESS_CPUTIME_ID: i32 = 2;
+    let mut time = Timespec { seconds: 0, nanos: 0 };
+    let status = unsafe { clock_gettime(CLOCK_PROCESS_CPUTIME_ID, &mut time) };
+    assert_eq!(status, 0);
+    time.seconds as f64 + time.nanos as f64 / 1e9
+}
+
 fn seconds(run: Run, shape: Shape) -> f64 {
-    let start = Instant::now();
+    let start = processor_time();
     black_box(run(black_box(shape)));
-    start.elapsed().as_secs_f64()
+    processor_time() - start
 }
 
 /// Nanoseconds for a cycle, without what the making and the first cycles take.
