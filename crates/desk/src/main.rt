@@ -42,7 +42,7 @@ fn print_ticket(rt: &LibcRuntime, ticket: &Ticket) -> Result<(), AnyError> {
     let name = worker(ticket.serial);
     let response = ticket.response / week::SECOND;
     let over = standing(ticket);
-    print!(rt, "{number:>3} {at:>7} {name:<5} {response:>7} {over:<5}")?;
+    print!(rt, "{number:>3} {at:>7} {name:<6} {response:>8} {over:<4}")?;
     Ok(())
 }
 
@@ -50,7 +50,7 @@ fn print_side(rt: &LibcRuntime, tickets: &[Ticket], i: usize) -> Result<(), AnyE
     if i < tickets.len() {
         return print_ticket(rt, &tickets[i]);
     }
-    print!(rt, "{:<31}", "")?;
+    print!(rt, "{:<32}", "")?;
     Ok(())
 }
 
@@ -70,11 +70,11 @@ fn print_requests(rt: &LibcRuntime) -> Result<(), AnyError> {
 
 fn print_lists(rt: &LibcRuntime, quotes: &[Ticket], revaluation: &[Ticket]) -> Result<(), AnyError> {
     println!(rt, "")?;
-    println!(rt, "quotes, by requests out            | revaluation, by response time")?;
-    println!(rt, "tkt sent at worker answered end    | tkt sent at worker answered end")?;
+    println!(rt, "quotes, by requests out          | revaluation, by response time")?;
+    println!(rt, "tkt sent at worker answered end  | tkt sent at worker answered end")?;
     for i in 0..quotes.len().max(revaluation.len()) {
         print_side(rt, quotes, i)?;
-        print!(rt, "    | ")?;
+        print!(rt, " | ")?;
         print_side(rt, revaluation, i)?;
         println!(rt, "")?;
     }
