@@ -41,6 +41,10 @@ impl Service for Echo as EchoService {
       accepted-grant = λ s q at g. refl;
     } };
 
+    fn is_granted(&self) -> bool {
+        self.granted.is_some()
+    }
+
     fn poll_ready(&mut self, at: u64) -> Readiness<u64> {
         self.granted = Some(at);
         Readiness::Ready

@@ -4,6 +4,7 @@ use mathlib.Core.List.{List, [], _∷_}
 use Prim.Native.Nat.{ℕ, _+_, _/_, _%_, _^_}
 use lib.Dec.{ltb}
 use lib.ListN.{length, getD}
+use denote.Ref.{RefT}
 use Rattle.model.specs.Outcome.{Outcome, outcome}
 use Rattle.rng.specs.declared.hasher_rng.HasherRng.{HasherRng}
 use Rattle.rng.specs.declared.list_rng.ListRng.{ListRng}
@@ -17,6 +18,10 @@ next-place words i = cond (ltb (i + 1) (length words)) (i + 1) 0
 -- the word at the place, 0 where there is none
 abbrev pub list-words : Words ListRng
 list-words = record { word = λ r. outcome (getD (r .words .now) (r .next) 0) (record { words = r .words; next = next-place (r .words .now) (r .next) }) }
+
+-- a newly made source: the first word is next
+abbrev pub list-start : RefT (List ℕ) → ListRng
+list-start words = record { words = words; next = 0 }
 
 -- the eight bytes of a number, low byte first
 abbrev pub bytes-of : ℕ → List ℕ

@@ -4,19 +4,26 @@ ghost use Prim.Native.Nat.{ℕ, _%_, _^_};
 ghost use lib.ListN.{length, getD};
 ghost use Rattle.rng.specs.Words.{nth-word};
 ghost use Rattle.rng.specs.Fnv.{fnv-1a};
-ghost use Rattle.rng.specs.Sources.{list-words, hasher-words, hasher-start, bytes-of};
+ghost use Rattle.rng.specs.Sources.{list-words, hasher-words, hasher-start, list-start, bytes-of};
 use crate::Rng;
 use crate::fnv::fnv1a;
 use crate::hasher_rng::HasherRng;
 use crate::list_rng::ListRng;
 
 impl HasherRng {
+    // The counter at 0.
+    fn start() -> Self
+        ensures { λ r. ⌜ r ≡ hasher-start ⌝ }
+    {
+        HasherRng { counter: 0 }
+    }
+
     // A source whose counter starts at 0.
     pub fn new() -> Self
         ensures value { λ r. ⌜ r ≡ hasher-start ⌝ }
         ensures words { λ r. ⌜ ((k : ℕ) → nth-word hasher-words r k ≡ fnv-1a (bytes-of (k % 2 ^ 64))) ⌝ }
     {
-        HasherRng { counter: 0 }
+        HasherRng::start()
     }
 }
 
@@ -31,11 +38,18 @@ pub impl Rng for HasherRng as HasherRngWords {
 }
 
 impl<'a> ListRng<'a> {
+    // The list at its first word.
+    fn start(words: &'a [u64]) -> Self
+        ensures { λ r. ⌜ r ≡ list-start (words .entry) ⌝ }
+    {
+        ListRng { words, next: 0 }
+    }
+
     // A source that gives the words in their order, over and over; with no words it gives 0.
     pub fn new(words: &'a [u64]) -> Self
         ensures { λ r. ⌜ ((k : ℕ) → nth-word list-words r k ≡ getD (now (words .entry)) (k % length (now (words .entry))) 0) ⌝ }
     {
-        ListRng { words, next: 0 }
+        ListRng::start(words)
     }
 }
 
