@@ -1,7 +1,7 @@
 #!/bin/sh
 # Writes the sample that the gate replays: crates/replay/stdin (the runs) and crates/replay/stdout (tower's answers).
 #   beside-tower/sample.sh SRC
-# beside-tower/picked holds a few runs written by hand, which come first; the others are made up from a fixed seed.
+# beside-tower/picked holds a few runs written by hand, which come first; the others are made by the generator from a fixed start.
 set -eu
 here=$(cd "$(dirname "$0")" && pwd)
 root=$(cd "$here/.." && pwd)
