@@ -26,8 +26,8 @@ where
         request: <D::Service as Endpoint>::Request,
         at: u64,
     ) -> Result<(u64, <D::Service as Endpoint>::Response), CallError>
-        ensures answer { result ≡ call_answer (call (kinds D.Key.Key.sameness D.Service.Endpoint.means Metric-as-Weight.order D.Discover.feeds R.Rng.source) at (state self.old (cache_view cache.old) (docket_view docket.old)) request).answer }
-        ensures after { state self.new (cache_view cache.new) (docket_view docket.new) ≡ (call (kinds D.Key.Key.sameness D.Service.Endpoint.means Metric-as-Weight.order D.Discover.feeds R.Rng.source) at (state self.old (cache_view cache.old) (docket_view docket.old)) request).after }
+        ensures answer { result ≡ call_answer (call (kinds D.Key.sameness D.Service.means D.Service.Metric.order D.feeds R.source) at (state self.old (cache_view cache.old) (docket_view docket.old)) request).answer }
+        ensures after { state self.new (cache_view cache.new) (docket_view docket.new) ≡ (call (kinds D.Key.sameness D.Service.means D.Service.Metric.order D.feeds R.source) at (state self.old (cache_view cache.old) (docket_view docket.old)) request).after }
     {
         if !self.fresh {
             return Err(CallError::NotFresh);

@@ -16,9 +16,9 @@ pub fn complete<K: Key, S: Endpoint>(
     ticket: u64,
     at: u64,
 ) -> Result<Completion, CompleteError>
-    ensures answer { result ≡ (complete means at (cache_view cache.old) (docket_view docket.old) ticket).answer }
-    ensures cache { cache_view cache.new ≡ (complete means at (cache_view cache.old) (docket_view docket.old) ticket).cache }
-    ensures docket { docket_view docket.new ≡ (complete means at (cache_view cache.old) (docket_view docket.old) ticket).docket }
+    ensures answer { result ≡ (complete S.means at (cache_view cache.old) (docket_view docket.old) ticket).answer }
+    ensures cache { cache_view cache.new ≡ (complete S.means at (cache_view cache.old) (docket_view docket.old) ticket).cache }
+    ensures docket { docket_view docket.new ≡ (complete S.means at (cache_view cache.old) (docket_view docket.old) ticket).docket }
 {
     let Some(record) = docket.remove(ticket) else {
         return Err(CompleteError::UnknownTicket);

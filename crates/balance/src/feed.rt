@@ -37,8 +37,8 @@ where
 {
     // Evicts the key, and clears the selection if the selected worker left or moved.
     fn evict(&mut self, cache: &mut ReadyCache<'_, D::Key, D::Service>, key: &D::Key)
-        ensures cache { cache_view cache.new ≡ (evict D.Key.Key.sameness (cache_view cache.old) key.now).after }
-        ensures after { self.new ≡ selecting self.old (still_selected self.old.selected (length (cache_view cache.old).ready) (ready_place D.Key.Key.sameness key.now (cache_view cache.old).ready)) }
+        ensures cache { cache_view cache.new ≡ (evict D.Key.sameness (cache_view cache.old) key.now).after }
+        ensures after { self.new ≡ selecting self.old (still_selected self.old.selected (length (cache_view cache.old).ready) (ready_place D.Key.sameness key.now (cache_view cache.old).ready)) }
     {
         let gone = cache.ready_index(key);
         let len = cache.ready_len();
@@ -52,9 +52,9 @@ where
         cache: &mut ReadyCache<'_, D::Key, D::Service>,
         at: u64,
     ) -> Result<bool, PollError<D::Key, D::Error>>
-        ensures answer { result ≡ (read_one D.Key.Key.sameness D.Discover.feeds at self.old.discover self.old.selected (cache_view cache.old)).answer }
-        ensures after { self.new ≡ reading self.old (read_one D.Key.Key.sameness D.Discover.feeds at self.old.discover self.old.selected (cache_view cache.old)) }
-        ensures cache { cache_view cache.new ≡ (read_one D.Key.Key.sameness D.Discover.feeds at self.old.discover self.old.selected (cache_view cache.old)).cache }
+        ensures answer { result ≡ (read_one D.Key.sameness D.feeds at self.old.discover self.old.selected (cache_view cache.old)).answer }
+        ensures after { self.new ≡ reading self.old (read_one D.Key.sameness D.feeds at self.old.discover self.old.selected (cache_view cache.old)) }
+        ensures cache { cache_view cache.new ≡ (read_one D.Key.sameness D.feeds at self.old.discover self.old.selected (cache_view cache.old)).cache }
     {
         match self.discover.poll_discover(at) {
             Discovered::Pending => Ok(false),
@@ -77,7 +77,7 @@ where
         cache: &mut ReadyCache<'_, D::Key, D::Service>,
         at: u64,
     ) -> Result<(), PollError<D::Key, D::Error>>
-        ensures { FedAs (read_feed (kinds D.Key.Key.sameness D.Service.Endpoint.means Metric-as-Weight.order D.Discover.feeds R.Rng.source) at self.old.budget self.old.discover self.old.selected (cache_view cache.old)) result self.old self.new (cache_view cache.new) }
+        ensures { FedAs (read_feed (kinds D.Key.sameness D.Service.means D.Service.Metric.order D.feeds R.source) at self.old.budget self.old.discover self.old.selected (cache_view cache.old)) result self.old self.new (cache_view cache.new) }
     {
         let budget = self.budget;
         for _turn in 0..budget {

@@ -1,4 +1,6 @@
 // The two-choice balancer (tower: balance/p2c).
+#![tactic(auto)]
+
 ghost use Rattle.std.specs.Prelude.{◌≡◌};
 ghost use Rattle.rng.specs.Sources.{hasher_start};
 ghost use Rattle.balance_model.specs.Balance.{new_balancer};

@@ -37,10 +37,10 @@ where
         cache: &mut ReadyCache<'_, D::Key, D::Service>,
         at: u64,
     ) -> Result<Polled, PollError<D::Key, D::Error>>
-        ensures answer { result ≡ (poll (kinds D.Key.Key.sameness D.Service.Endpoint.means Metric-as-Weight.order D.Discover.feeds R.Rng.source) at (view self.old) (cache_view cache.old)).answer }
-        ensures after { view self.new ≡ (poll (kinds D.Key.Key.sameness D.Service.Endpoint.means Metric-as-Weight.order D.Discover.feeds R.Rng.source) at (view self.old) (cache_view cache.old)).balancer }
-        ensures cache { cache_view cache.new ≡ (poll (kinds D.Key.Key.sameness D.Service.Endpoint.means Metric-as-Weight.order D.Discover.feeds R.Rng.source) at (view self.old) (cache_view cache.old)).cache }
-        ensures lawful { PollLawful D.Service.Endpoint.means Metric-as-Weight.order at (poll (kinds D.Key.Key.sameness D.Service.Endpoint.means Metric-as-Weight.order D.Discover.feeds R.Rng.source) at (view self.old) (cache_view cache.old)) }
+        ensures answer { result ≡ (poll (kinds D.Key.sameness D.Service.means D.Service.Metric.order D.feeds R.source) at (view self.old) (cache_view cache.old)).answer }
+        ensures after { view self.new ≡ (poll (kinds D.Key.sameness D.Service.means D.Service.Metric.order D.feeds R.source) at (view self.old) (cache_view cache.old)).balancer }
+        ensures cache { cache_view cache.new ≡ (poll (kinds D.Key.sameness D.Service.means D.Service.Metric.order D.feeds R.source) at (view self.old) (cache_view cache.old)).cache }
+        ensures lawful { PollLawful D.Service.means D.Service.Metric.order at (poll (kinds D.Key.sameness D.Service.means D.Service.Metric.order D.feeds R.source) at (view self.old) (cache_view cache.old)) }
     {
         self.fresh = false;
         self.read_feed(cache, at)?;

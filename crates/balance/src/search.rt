@@ -31,8 +31,8 @@ fn loses_one<K: Key, S: Endpoint, F: Copy>(
     cache: &mut ReadyCache<'_, K, S>,
     at: u64,
 ) -> Result<bool, PollError<K, F>>
-    ensures answer { result ≡ loses_one (poll_pending sameness means at (cache_view cache.old)).answer }
-    ensures after { cache_view cache.new ≡ (poll_pending sameness means at (cache_view cache.old)).after }
+    ensures answer { result ≡ loses_one (poll_pending K.sameness S.means at (cache_view cache.old)).answer }
+    ensures after { cache_view cache.new ≡ (poll_pending K.sameness S.means at (cache_view cache.old)).after }
 {
     match cache.poll_pending(at) {
         Ok(_) => Ok(false),
@@ -45,7 +45,7 @@ pub(crate) fn settle<K: Key, S: Endpoint, F: Copy>(
     cache: &mut ReadyCache<'_, K, S>,
     at: u64,
 ) -> Result<u32, PollError<K, F>>
-    ensures { SettledAs (settle_all sameness means at (cache_view cache.old)) result (cache_view cache.new) }
+    ensures { SettledAs (settle_all K.sameness S.means at (cache_view cache.old)) result (cache_view cache.new) }
 {
     let mut lost: u32 = 0;
     while loses_one(cache, at)? {
@@ -61,8 +61,8 @@ fn lighter<K: Key, S: Endpoint>(
     b: usize,
     at: u64,
 ) -> usize
-    ensures answer { result ≡ (weigh means Metric-as-Weight.order at (cache_view cache.old) a b).place }
-    ensures after { cache_view cache.new ≡ (weigh means Metric-as-Weight.order at (cache_view cache.old) a b).cache }
+    ensures answer { result ≡ (weigh S.means S.Metric.order at (cache_view cache.old) a b).place }
+    ensures after { cache_view cache.new ≡ (weigh S.means S.Metric.order at (cache_view cache.old) a b).cache }
 {
     let first = cache.load_ready_index(a, at);
     let second = cache.load_ready_index(b, at);
@@ -78,8 +78,8 @@ fn ask_selected<K: Key, S: Endpoint>(
     selected: Option<usize>,
     at: u64,
 ) -> Option<u32>
-    ensures answer { result ≡ lost_by (check_selected sameness means at (cache_view cache.old) selected).answer }
-    ensures after { cache_view cache.new ≡ (check_selected sameness means at (cache_view cache.old) selected).after }
+    ensures answer { result ≡ lost_by (check_selected K.sameness S.means at (cache_view cache.old) selected).answer }
+    ensures after { cache_view cache.new ≡ (check_selected K.sameness S.means at (cache_view cache.old) selected).after }
 {
     let Some(i) = selected else {
         return Some(0);
@@ -101,9 +101,9 @@ where
         cache: &mut ReadyCache<'_, D::Key, D::Service>,
         at: u64,
     ) -> Option<usize>
-        ensures answer { result ≡ drawn_place (cache_view cache.old) (draw D.Service.Endpoint.means Metric-as-Weight.order at R.Rng.source (cache_view cache.old) self.old.rng) }
-        ensures after { self.new ≡ with_words self.old (draw D.Service.Endpoint.means Metric-as-Weight.order at R.Rng.source (cache_view cache.old) self.old.rng).words }
-        ensures cache { cache_view cache.new ≡ (draw D.Service.Endpoint.means Metric-as-Weight.order at R.Rng.source (cache_view cache.old) self.old.rng).cache }
+        ensures answer { result ≡ drawn_place (cache_view cache.old) (draw D.Service.means D.Service.Metric.order at R.source (cache_view cache.old) self.old.rng) }
+        ensures after { self.new ≡ with_words self.old (draw D.Service.means D.Service.Metric.order at R.source (cache_view cache.old) self.old.rng).words }
+        ensures cache { cache_view cache.new ≡ (draw D.Service.means D.Service.Metric.order at R.source (cache_view cache.old) self.old.rng).cache }
     {
         let len = cache.ready_len();
         if len == 0 {
@@ -124,7 +124,7 @@ where
         lost: u32,
     ) -> (Option<usize>, u32)
         requires { lost ≤ 4096 }
-        ensures { SoughtAs (select (kinds D.Key.Key.sameness D.Service.Endpoint.means Metric-as-Weight.order D.Discover.feeds R.Rng.source) at self.old.selected (cache_view cache.old) self.old.rng) lost result self.old self.new (cache_view cache.new) }
+        ensures { SoughtAs (select (kinds D.Key.sameness D.Service.means D.Service.Metric.order D.feeds R.source) at self.old.selected (cache_view cache.old) self.old.rng) lost result self.old self.new (cache_view cache.new) }
     {
         let mut lost = lost;
         let mut selected = self.selected;

@@ -1,4 +1,6 @@
 // The docket, the balancer and whole runs: their records and answers, and in specs/ what each call does and what is promised of every run. No code.
+#![tactic(auto)]
+
 pub mod answer;
 pub mod convert;
 pub mod docket_record;

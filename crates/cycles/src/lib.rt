@@ -1,4 +1,6 @@
 // Cycles of poll, call and completion, for measuring how long they take.
+#![tactic(auto)]
+
 pub mod repeated;
 pub mod repeating;
 

@@ -1,4 +1,6 @@
 // The desk's week on one page: the same requests, given to two routers.
+#![tactic(auto)]
+
 mod router;
 mod tickets;
 mod week;

@@ -1,4 +1,6 @@
 // Feeds of workers that come and go (tower: discover).
+#![tactic(auto)]
+
 ghost use Rattle.std.specs.Prelude.{◌≡◌};
 ghost use Rattle.discover.specs.Feeds.{Feeds};
 

@@ -1,4 +1,6 @@
 // The docket over a lent slice of records (tower: load/completion, whose handles become tickets here).
+#![tactic(auto)]
+
 ghost use Rattle.std.specs.Prelude.{◌≡◌, ℕ, ◌≤◌, min, length, Some, None, Ok, Err, ◌==◌};
 ghost use Rattle.std.specs.Slice.Iter.{iter_rest};
 ghost use Rattle.model.specs.Options.{by_some};

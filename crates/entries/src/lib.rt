@@ -1,4 +1,6 @@
 // What a cache does with one of its lists: the first `len` entries of a slice, or all of it where it is shorter.
+#![tactic(auto)]
+
 ghost use Rattle.std.specs.Prelude.{◌≡◌, ℕ, false, take, is_some, Some, None, Ok, Err, slice_set};
 ghost use Rattle.model.specs.Options.{by_some};
 ghost use Rattle.model.specs.Lists.{at as item_at, place_of};
@@ -24,8 +26,8 @@ pub fn ask<K: Copy, S: Endpoint>(
     i: usize,
     at: u64,
 ) -> Result<bool, Failed<K, S::Error>>
-    ensures answer { result ≡ by_some (item_at (take len items.old) i) (Ok false) (λ e. told e (means.polled e.endpoint at).answer) }
-    ensures after { items.new ≡ by_some (item_at (take len items.old) i) items.old (λ e. slice_set items.old i (holding e (means.polled e.endpoint at).after)) }
+    ensures answer { result ≡ by_some (item_at (take len items.old) i) (Ok false) (λ e. told e (S.means.polled e.endpoint at).answer) }
+    ensures after { items.new ≡ by_some (item_at (take len items.old) i) items.old (λ e. slice_set items.old i (holding e (S.means.polled e.endpoint at).after)) }
 {
     if i >= items.len().min(len) {
         return Ok(false);
@@ -48,8 +50,8 @@ pub fn call<K: Copy, S: Endpoint>(
     request: S::Request,
     at: u64,
 ) -> Result<S::Response, CallRefusal>
-    ensures answer { result ≡ by_some (item_at (take len items.old) i) (Err NotReady) (λ e. by_some (refused_by means e.endpoint) (Ok (means.accepted e.endpoint request at).answer) (λ x. Err (as_call x))) }
-    ensures after { items.new ≡ by_some (item_at (take len items.old) i) items.old (λ e. by_some (refused_by means e.endpoint) (slice_set items.old i (holding e (means.accepted e.endpoint request at).after)) (λ _. items.old)) }
+    ensures answer { result ≡ by_some (item_at (take len items.old) i) (Err NotReady) (λ e. by_some (refused_by S.means e.endpoint) (Ok (S.means.accepted e.endpoint request at).answer) (λ x. Err (as_call x))) }
+    ensures after { items.new ≡ by_some (item_at (take len items.old) i) items.old (λ e. by_some (refused_by S.means e.endpoint) (slice_set items.old i (holding e (S.means.accepted e.endpoint request at).after)) (λ _. items.old)) }
 {
     if i >= items.len().min(len) {
         return Err(CallRefusal::NotReady);
@@ -65,8 +67,8 @@ pub fn load<K: Copy, S: Endpoint>(
     i: usize,
     at: u64,
 ) -> Option<S::Metric>
-    ensures answer { result ≡ by_some (item_at (take len items.old) i) None (λ e. Some (means.weight e.endpoint at)) }
-    ensures after { items.new ≡ by_some (item_at (take len items.old) i) items.old (λ e. slice_set items.old i (holding e (means.loaded e.endpoint at))) }
+    ensures answer { result ≡ by_some (item_at (take len items.old) i) None (λ e. Some (S.means.weight e.endpoint at)) }
+    ensures after { items.new ≡ by_some (item_at (take len items.old) i) items.old (λ e. slice_set items.old i (holding e (S.means.loaded e.endpoint at))) }
 {
     if i >= items.len().min(len) {
         return None;
@@ -83,7 +85,7 @@ pub fn finish<K: Copy, S: Endpoint>(
     at: u64,
 ) -> bool
     ensures answer { result ≡ is_some (place_of (has_serial serial) (take len items.old)) }
-    ensures after { take len items.new ≡ finish_in means at (take len items.old) serial sent }
+    ensures after { take len items.new ≡ finish_in S.means at (take len items.old) serial sent }
 {
     match lists::find(items, len, &WithSerial { serial }) {
         Some(i) => {
@@ -96,8 +98,8 @@ pub fn finish<K: Copy, S: Endpoint>(
 
 // Marks the uncancelled entry of the key cancelled, and answers whether there is one.
 pub fn cancel<K: Key, S: Copy>(items: &mut [Entry<K, S>], len: usize, key: &K) -> bool
-    ensures answer { result ≡ any_live sameness key.now (take len items.old) }
-    ensures after { take len items.new ≡ cancel sameness key.now (take len items.old) }
+    ensures answer { result ≡ any_live K.sameness key.now (take len items.old) }
+    ensures after { take len items.new ≡ cancel K.sameness key.now (take len items.old) }
 {
     match lists::find(items, len, &LiveOf { key: *key }) {
         Some(i) => {

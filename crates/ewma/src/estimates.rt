@@ -70,7 +70,7 @@ impl RttEstimate {
 
     // A response came at `at` to what was sent at `sent`.
     pub fn update<D: Decay>(&mut self, decay: &D, decay_period: u64, sent: u64, at: u64)
-        ensures { self.new ≡ updated decays decay.now decay_period self.old sent at }
+        ensures { self.new ≡ updated D.decays decay.now decay_period self.old sent at }
     {
         let elapsed = nanos(at.saturating_sub(self.update_at));
         let share = decay.decay(-elapsed / nanos(decay_period));
@@ -82,7 +82,7 @@ impl RttEstimate {
 
 // What is read from bits, and what any update makes of it, is finite and not below zero, and is kept by its bits.
 pub fn estimates_stay_finite<D: Decay>(decay: &D)
-    ensures { EstimatesStay decays decay.now }
+    ensures { EstimatesStay D.decays decay.now }
 {
     let _ = decay;
 }

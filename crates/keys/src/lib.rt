@@ -1,3 +1,5 @@
 // Names as keys. (Branch numbers are keys too: see the crate service.)
+#![tactic(auto)]
+
 pub mod name;
 pub mod naming;

@@ -1,4 +1,6 @@
 // Lists in lent memory: the first `len` items of a slice, or all of it where it is shorter.
+#![tactic(auto)]
+
 ghost use Rattle.std.specs.Prelude.{◌≡◌, ℕ, ◌+◌, ◌-◌, ◌<◌, ◌≤◌, min, Bool, cond, List, [], ◌∷◌, ◌++◌, length, take, replicate, IfSome, IfOk, None, MatchOption, OnSome, nat_lt, slice_set};
 ghost use Rattle.model.specs.Lists.{at, place_of, swap_remove};
 
@@ -27,7 +29,7 @@ pub trait Test<T> {
 // How many of the first `end` items can be passed over, four at a time: none of them passes the test.
 fn pass_over<T: Copy, P: Test<T>>(items: &[T], end: usize, test: &P) -> usize
     requires { end ≤ length items.now }
-    ensures none { place_of (holds test.now) (take result items.now) ≡ None }
+    ensures none { place_of (P.holds test.now) (take result items.now) ≡ None }
     ensures within { result ≤ end }
 {
     for quad in 0..end / 4 {
@@ -45,7 +47,7 @@ fn pass_over<T: Copy, P: Test<T>>(items: &[T], end: usize, test: &P) -> usize
 
 // The place of the first item that passes the test.
 pub fn find<T: Copy, P: Test<T>>(items: &[T], len: usize, test: &P) -> Option<usize>
-    ensures answer { result ≡ place_of (holds test.now) (take len items.now) }
+    ensures answer { result ≡ place_of (P.holds test.now) (take len items.now) }
     ensures within { IfSome result (λ i. (i < len) × (i < length items.now)) }
 {
     let end = items.len().min(len);

@@ -1,4 +1,6 @@
 // Load measures: endpoints over bare services (tower: load).
+#![tactic(auto)]
+
 ghost use Rattle.std.specs.Prelude.{◌≡◌};
 ghost use Rattle.load.specs.Pending.{over, with_none_out};
 

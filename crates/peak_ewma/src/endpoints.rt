@@ -61,8 +61,8 @@ impl<S: Copy, D: Decay> PeakEwma<S, D> {
 
     // Updates the estimate by a response at `at` to what was sent at `sent`, and answers it.
     fn update_estimate(&mut self, sent: u64, at: u64) -> f64
-        ensures answer { result ≡ (observed decays self.old sent at).answer }
-        ensures after { self.new ≡ (observed decays self.old sent at).after }
+        ensures answer { result ≡ (observed D.decays self.old sent at).answer }
+        ensures after { self.new ≡ (observed D.decays self.old sent at).after }
     {
         let mut estimate = self.estimate();
         let decay = self.decay;

@@ -31,8 +31,8 @@ impl<'a, K: Copy, S: Copy> ReadyCache<'a, K, S> {
 impl<'a, K: Key, S: Copy> ReadyCache<'a, K, S> {
     // Takes a worker in, to the end of pending, and cancels the one of its key there; answers its serial.
     pub fn push(&mut self, key: K, endpoint: S) -> Result<u64, PushError<K>>
-        ensures answer { result ≡ (push sameness (view self.old) key endpoint).answer }
-        ensures after { view self.new ≡ (push sameness (view self.old) key endpoint).after }
+        ensures answer { result ≡ (push K.sameness (view self.old) key endpoint).answer }
+        ensures after { view self.new ≡ (push K.sameness (view self.old) key endpoint).after }
     {
         let l = self.lengths();
         let serial = self.next_serial;
@@ -63,8 +63,8 @@ impl<'a, K: Key, S: Copy> ReadyCache<'a, K, S> {
 
     // Cancels the pending worker of the key and takes the ready one away; answers whether there was either.
     pub fn evict(&mut self, key: &K) -> bool
-        ensures answer { result ≡ (evict sameness (view self.old) key.now).answer }
-        ensures after { view self.new ≡ (evict sameness (view self.old) key.now).after }
+        ensures answer { result ≡ (evict K.sameness (view self.old) key.now).answer }
+        ensures after { view self.new ≡ (evict K.sameness (view self.old) key.now).after }
     {
         let l = self.lengths();
         let cancelled = entries::cancel(self.pending, l.pending, key);
@@ -79,7 +79,7 @@ impl<'a, K: Key, S: Copy> ReadyCache<'a, K, S> {
 
     // Moves the ready entry at a place to pending, unless an uncancelled one there has its key.
     pub(crate) fn demote(&mut self, i: usize)
-        ensures { view self.new ≡ by_some (item_at (view self.old).ready i) (view self.old) (λ e. with_lists (view self.old) (swap_remove (view self.old).ready i) (set_aside sameness e (view self.old).pending)) }
+        ensures { view self.new ≡ by_some (item_at (view self.old).ready i) (view self.old) (λ e. with_lists (view self.old) (swap_remove (view self.old).ready i) (set_aside K.sameness e (view self.old).pending)) }
     {
         let l = self.lengths();
         match lists::swap_remove(self.ready, l.ready, i) {

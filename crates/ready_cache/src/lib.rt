@@ -1,4 +1,6 @@
 // The ready cache over two lent slices (tower: ready_cache).
+#![tactic(auto)]
+
 ghost use Rattle.std.specs.Prelude.{◌≡◌, ℕ, ◌+◌, ◌≤◌, length, None, ◌==◌};
 ghost use Rattle.std.specs.Slice.Iter.{iter_rest};
 ghost use Rattle.model.specs.Options.{by_some};
@@ -142,7 +144,7 @@ impl<'a, K: Key, S: Endpoint> ReadyCache<'a, K, S> {
         first_serial: u64,
     ) -> Self
         ensures made { view result ≡ new_cache (capacity_of (length ready.old) (length pending.old)) first_serial }
-        ensures lawful { AlwaysLawful sameness means (view result) }
+        ensures lawful { AlwaysLawful K.sameness S.means (view result) }
     {
         ReadyCache::empty(ready, pending, first_serial)
     }
@@ -151,7 +153,7 @@ impl<'a, K: Key, S: Endpoint> ReadyCache<'a, K, S> {
 impl<'a, K: Key, S: Copy> ReadyCache<'a, K, S> {
     // Whether a worker of the key is pending and not cancelled.
     pub fn pending_contains(&self, key: &K) -> bool
-        ensures { result ≡ any_live sameness key.now (view self.now).pending }
+        ensures { result ≡ any_live K.sameness key.now (view self.now).pending }
     {
         let l = self.lengths();
         lists::find(self.pending, l.pending, &LiveOf { key: *key }).is_some()
@@ -159,7 +161,7 @@ impl<'a, K: Key, S: Copy> ReadyCache<'a, K, S> {
 
     // The place of the key's entry among the ready.
     pub fn ready_index(&self, key: &K) -> Option<usize>
-        ensures { result ≡ ready_place sameness key.now (view self.now).ready }
+        ensures { result ≡ ready_place K.sameness key.now (view self.now).ready }
     {
         let l = self.lengths();
         lists::find(self.ready, l.ready, &OfKey { key: *key })
@@ -167,7 +169,7 @@ impl<'a, K: Key, S: Copy> ReadyCache<'a, K, S> {
 
     // The ready entry of the key.
     pub fn get_ready(&self, key: &K) -> Option<Entry<K, S>>
-        ensures { result ≡ by_some (ready_place sameness key.now (view self.now).ready) None (item_at (view self.now).ready) }
+        ensures { result ≡ by_some (ready_place K.sameness key.now (view self.now).ready) None (item_at (view self.now).ready) }
     {
         match self.ready_index(key) {
             Some(i) => self.get_ready_index(i),

@@ -29,7 +29,7 @@ fn turn<K: Copy, S: Endpoint>(
     at: u64,
 ) -> Result<Option<Entry<K, S>>, Failed<K, S::Error>>
     requires { (places.old.write ≤ places.old.read) × (places.old.read < length items.old) }
-    ensures { Turned means at items.old places.old result items.new places.new }
+    ensures { Turned S.means at items.old places.old result items.new places.new }
 {
     let read = places.read;
     if items[read].cancelled {
@@ -63,7 +63,7 @@ fn promote<K: Key, S: Endpoint>(
     entry: Entry<K, S>,
 ) -> Result<usize, PendingError<K, S::Error>>
     requires { (len ≤ capacity) × (capacity ≤ length items.old) }
-    ensures { MatchResult result (Promoted sameness capacity entry items.old len items.new) (Refused sameness capacity entry items.old len items.new) }
+    ensures { MatchResult result (Promoted K.sameness capacity entry items.old len items.new) (Refused K.sameness capacity entry items.old len items.new) }
 {
     match lists::find(items, len, &OfKey { key: entry.key }) {
         Some(i) => {
@@ -105,7 +105,7 @@ impl<'a, K: Key, S: Endpoint> ReadyCache<'a, K, S> {
         at: u64,
     ) -> Result<(), PendingError<K, S::Error>>
         requires { (places.old.write ≤ places.old.read) × ((places.old.read ≤ end) × ((end ≤ length self.old.pending.now) × ((places.old.ready ≤ capacity) × (capacity ≤ length self.old.ready.now)))) }
-        ensures ends { Ends sameness means at capacity end self.old.ready.now self.old.pending.now self.new.ready.now self.new.pending.now places.old places.new result }
+        ensures ends { Ends K.sameness S.means at capacity end self.old.ready.now self.old.pending.now self.new.ready.now self.new.pending.now places.old places.new result }
         ensures next { self.new.next_serial ≡ self.old.next_serial }
     {
         while places.read < end {
@@ -120,8 +120,8 @@ impl<'a, K: Key, S: Endpoint> ReadyCache<'a, K, S> {
 
     // Asks the pending workers from the resume place on: those that are ready join the ready list.
     pub fn poll_pending(&mut self, at: u64) -> Result<Poll<()>, PendingError<K, S::Error>>
-        ensures answer { result ≡ (poll_pending sameness means at (view self.old)).answer }
-        ensures after { view self.new ≡ (poll_pending sameness means at (view self.old)).after }
+        ensures answer { result ≡ (poll_pending K.sameness S.means at (view self.old)).answer }
+        ensures after { view self.new ≡ (poll_pending K.sameness S.means at (view self.old)).after }
     {
         let l = self.lengths();
         let end = l.pending;

@@ -13,7 +13,7 @@ pub fn set_aside<K: Key, S: Copy>(
     entry: Entry<K, S>,
 ) -> usize
     requires { len < length items.old }
-    ensures list { take result items.new ≡ set_aside sameness entry (take len items.old) }
+    ensures list { take result items.new ≡ set_aside K.sameness entry (take len items.old) }
     ensures most { result ≤ len + 1 }
 {
     match lists::find(items, len, &LiveOf { key: entry.key }) {

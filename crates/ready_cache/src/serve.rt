@@ -10,8 +10,8 @@ use service::{Endpoint, Key};
 impl<'a, K: Key, S: Endpoint> ReadyCache<'a, K, S> {
     // Asks the ready worker at a place whether it still is: one that is not leaves the ready list, and one that failed the cache.
     pub fn check_ready_index(&mut self, i: usize, at: u64) -> Result<bool, Failed<K, S::Error>>
-        ensures answer { result ≡ (check sameness means at (view self.old) i).answer }
-        ensures after { view self.new ≡ (check sameness means at (view self.old) i).after }
+        ensures answer { result ≡ (check K.sameness S.means at (view self.old) i).answer }
+        ensures after { view self.new ≡ (check K.sameness S.means at (view self.old) i).after }
     {
         let l = self.lengths();
         match entries::ask(self.ready, l.ready, i, at) {
@@ -31,8 +31,8 @@ impl<'a, K: Key, S: Endpoint> ReadyCache<'a, K, S> {
 
     // The same by key; an unknown key is not ready.
     pub fn check_ready(&mut self, key: &K, at: u64) -> Result<bool, Failed<K, S::Error>>
-        ensures answer { result ≡ (check_key sameness means at (view self.old) key.now).answer }
-        ensures after { view self.new ≡ (check_key sameness means at (view self.old) key.now).after }
+        ensures answer { result ≡ (check_key K.sameness S.means at (view self.old) key.now).answer }
+        ensures after { view self.new ≡ (check_key K.sameness S.means at (view self.old) key.now).after }
     {
         match self.ready_index(key) {
             Some(i) => self.check_ready_index(i, at),
@@ -47,8 +47,8 @@ impl<'a, K: Key, S: Endpoint> ReadyCache<'a, K, S> {
         request: S::Request,
         at: u64,
     ) -> Result<S::Response, CallRefusal>
-        ensures answer { result ≡ (call sameness means at (view self.old) i request).answer }
-        ensures after { view self.new ≡ (call sameness means at (view self.old) i request).after }
+        ensures answer { result ≡ (call K.sameness S.means at (view self.old) i request).answer }
+        ensures after { view self.new ≡ (call K.sameness S.means at (view self.old) i request).after }
     {
         let l = self.lengths();
         let response = entries::call(self.ready, l.ready, i, request, at)?;
@@ -63,8 +63,8 @@ impl<'a, K: Key, S: Endpoint> ReadyCache<'a, K, S> {
         request: S::Request,
         at: u64,
     ) -> Result<S::Response, CallRefusal>
-        ensures answer { result ≡ (call_key sameness means at (view self.old) key.now request).answer }
-        ensures after { view self.new ≡ (call_key sameness means at (view self.old) key.now request).after }
+        ensures answer { result ≡ (call_key K.sameness S.means at (view self.old) key.now request).answer }
+        ensures after { view self.new ≡ (call_key K.sameness S.means at (view self.old) key.now request).after }
     {
         match self.ready_index(key) {
             Some(i) => self.call_ready_index(i, request, at),
@@ -76,8 +76,8 @@ impl<'a, K: Key, S: Endpoint> ReadyCache<'a, K, S> {
 impl<'a, K: Copy, S: Endpoint> ReadyCache<'a, K, S> {
     // Tells the worker with the serial that a request sent at `sent` is over; answers whether it is still here.
     pub fn finish(&mut self, serial: u64, sent: u64, at: u64) -> bool
-        ensures answer { result ≡ (finish means at (view self.old) serial sent).answer }
-        ensures after { view self.new ≡ (finish means at (view self.old) serial sent).after }
+        ensures answer { result ≡ (finish S.means at (view self.old) serial sent).answer }
+        ensures after { view self.new ≡ (finish S.means at (view self.old) serial sent).after }
     {
         let l = self.lengths();
         if entries::finish(self.ready, l.ready, serial, sent, at) {
@@ -88,8 +88,8 @@ impl<'a, K: Copy, S: Endpoint> ReadyCache<'a, K, S> {
 
     // Reads the weight of the ready worker at a place.
     pub fn load_ready_index(&mut self, i: usize, at: u64) -> Option<S::Metric>
-        ensures answer { result ≡ (load means at (view self.old) i).answer }
-        ensures after { view self.new ≡ (load means at (view self.old) i).after }
+        ensures answer { result ≡ (load S.means at (view self.old) i).answer }
+        ensures after { view self.new ≡ (load S.means at (view self.old) i).after }
     {
         let l = self.lengths();
         entries::load(self.ready, l.ready, i, at)

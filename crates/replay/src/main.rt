@@ -1,4 +1,6 @@
 // Replays runs beside those of tower: reads them on standard input, and prints what each pick answers and leaves.
+#![tactic(auto)]
+
 mod apply;
 mod kinds;
 mod read;

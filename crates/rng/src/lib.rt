@@ -1,4 +1,6 @@
 // Sources of random words, and a sample of two by Floyd's algorithm (tower: util/rng).
+#![tactic(auto)]
+
 ghost use Rattle.std.specs.Prelude.{◌≡◌, ℕ, ◌-◌, ◌%◌, ◌<◌, ◌≤◌, List, [], ◌∷◌, slice_index};
 ghost use Rattle.rng.specs.Words.{Words, nth_word, in_range, remainders, sample};
 ghost use Rattle.sampling.specs.Pairs.{TwoBelow, OnePairEach};
@@ -35,8 +37,8 @@ pub trait Rng {
 
 // Two places by two words: the first below length - 1, the second below length; where they are equal, the first becomes the last place.
 fn two_places<R: Rng>(rng: &mut R, length: u64) -> [u64; 2]
-    ensures answer { result ≡ (sample source rng.old length).answer }
-    ensures after { rng.new ≡ (sample source rng.old length).after }
+    ensures answer { result ≡ (sample R.source rng.old length).answer }
+    ensures after { rng.new ≡ (sample R.source rng.old length).after }
 {
     if length < 2 {
         return [0, 0];
@@ -48,9 +50,9 @@ fn two_places<R: Rng>(rng: &mut R, length: u64) -> [u64; 2]
 
 // Two different places below `length`, by two words; below two places it answers [0, 0] and takes no word.
 pub fn sample_floyd2<R: Rng>(rng: &mut R, length: u64) -> [u64; 2]
-    ensures answer { result ≡ (sample source rng.old length).answer }
-    ensures after { rng.new ≡ (sample source rng.old length).after }
-    ensures floyd { 2 ≤ length → SameSet result (floyd length (remainders source rng.old length)) }
+    ensures answer { result ≡ (sample R.source rng.old length).answer }
+    ensures after { rng.new ≡ (sample R.source rng.old length).after }
+    ensures floyd { 2 ≤ length → SameSet result (floyd length (remainders R.source rng.old length)) }
     ensures different { 2 ≤ length → TwoBelow length (slice_index result 0) (slice_index result 1) }
     ensures pairs { 2 ≤ length → OnePairEach length }
     ensures shares { 2 ≤ length → FairShares length }

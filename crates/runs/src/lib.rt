@@ -1,4 +1,6 @@
 // Whole runs of a balancer.
+#![tactic(auto)]
+
 ghost use Rattle.std.specs.Prelude.{◌≡◌, length, IfOk};
 ghost use Rattle.balance_model.specs.History.{event, after, answer_of, apply_all, draws_of};
 ghost use Rattle.ready_cache.specs.View.{view as cache_view};
@@ -32,8 +34,8 @@ fn step<D: Discover, R: Rng>(
 ) -> Answer<D::Key, <D::Service as Endpoint>::Response, D::Error>
 where
     D::Service: Endpoint,
-    ensures answer { result ≡ answer_of (event (kinds D.Key.Key.sameness D.Service.Endpoint.means Metric-as-Weight.order D.Discover.feeds R.Rng.source) (state balance.old (cache_view cache.old) (docket_view docket.old)) pick) }
-    ensures after { state balance.new (cache_view cache.new) (docket_view docket.new) ≡ after (kinds D.Key.Key.sameness D.Service.Endpoint.means Metric-as-Weight.order D.Discover.feeds R.Rng.source) (state balance.old (cache_view cache.old) (docket_view docket.old)) pick }
+    ensures answer { result ≡ answer_of (event (kinds D.Key.sameness D.Service.means D.Service.Metric.order D.feeds R.source) (state balance.old (cache_view cache.old) (docket_view docket.old)) pick) }
+    ensures after { state balance.new (cache_view cache.new) (docket_view docket.new) ≡ after (kinds D.Key.sameness D.Service.means D.Service.Metric.order D.feeds R.source) (state balance.old (cache_view cache.old) (docket_view docket.old)) pick }
 {
     match pick {
         Pick::Poll { at } => Answer::Polled(balance.poll_ready(cache, at)),
@@ -52,7 +54,7 @@ fn apply_all<D: Discover, R: Rng>(
 ) -> Result<Vec<Answer<D::Key, <D::Service as Endpoint>::Response, D::Error>>, AllocError>
 where
     D::Service: Endpoint,
-    ensures { IfOk result (λ v. Applied v.items (state balance.new (cache_view cache.new) (docket_view docket.new)) (apply_all (kinds D.Key.Key.sameness D.Service.Endpoint.means Metric-as-Weight.order D.Discover.feeds R.Rng.source) (from_state (state balance.old (cache_view cache.old) (docket_view docket.old))) picks.now)) }
+    ensures { IfOk result (λ v. Applied v.items (state balance.new (cache_view cache.new) (docket_view docket.new)) (apply_all (kinds D.Key.sameness D.Service.means D.Service.Metric.order D.feeds R.source) (from_state (state balance.old (cache_view cache.old) (docket_view docket.old))) picks.now)) }
 {
     let mut answers = Vec::new(heap);
     for pick in picks {
@@ -119,15 +121,15 @@ where
     D: Drop,
     R: Drop,
     D::Service: Endpoint,
-    ensures answers { IfOk result (λ x. RanAs x (whole_run (kinds D.Key.Key.sameness D.Service.Endpoint.means Metric-as-Weight.order D.Discover.feeds R.Rng.source) (making (length ready.old) (length pending.old) (length records.old) feed words budget first_serial first_ticket) picks.now)) }
-    ensures sent { EachCall ReachedNamed (whole_run (kinds D.Key.Key.sameness D.Service.Endpoint.means Metric-as-Weight.order D.Discover.feeds R.Rng.source) (making (length ready.old) (length pending.old) (length records.old) feed words budget first_serial first_ticket) picks.now).history }
-    ensures six { EachCall SixThen (whole_run (kinds D.Key.Key.sameness D.Service.Endpoint.means Metric-as-Weight.order D.Discover.feeds R.Rng.source) (making (length ready.old) (length pending.old) (length records.old) feed words budget first_serial first_ticket) picks.now).history }
-    ensures never { EachCall NotThreeOrFour (whole_run (kinds D.Key.Key.sameness D.Service.Endpoint.means Metric-as-Weight.order D.Discover.feeds R.Rng.source) (making (length ready.old) (length pending.old) (length records.old) feed words budget first_serial first_ticket) picks.now).history }
-    ensures keys { KeysOnce D.Key.Key.sameness (whole_run (kinds D.Key.Key.sameness D.Service.Endpoint.means Metric-as-Weight.order D.Discover.feeds R.Rng.source) (making (length ready.old) (length pending.old) (length records.old) feed words budget first_serial first_ticket) picks.now).state.cache }
-    ensures serials { SerialsOnce (whole_run (kinds D.Key.Key.sameness D.Service.Endpoint.means Metric-as-Weight.order D.Discover.feeds R.Rng.source) (making (length ready.old) (length pending.old) (length records.old) feed words budget first_serial first_ticket) picks.now).state.cache }
-    ensures counts { CountsRight D.Service.Endpoint.means.count (whole_run (kinds D.Key.Key.sameness D.Service.Endpoint.means Metric-as-Weight.order D.Discover.feeds R.Rng.source) (making (length ready.old) (length pending.old) (length records.old) feed words budget first_serial first_ticket) picks.now).history (whole_run (kinds D.Key.Key.sameness D.Service.Endpoint.means Metric-as-Weight.order D.Discover.feeds R.Rng.source) (making (length ready.old) (length pending.old) (length records.old) feed words budget first_serial first_ticket) picks.now).state.cache }
-    ensures words { Took R.Rng.source words (draws_of (whole_run (kinds D.Key.Key.sameness D.Service.Endpoint.means Metric-as-Weight.order D.Discover.feeds R.Rng.source) (making (length ready.old) (length pending.old) (length records.old) feed words budget first_serial first_ticket) picks.now).history) (whole_run (kinds D.Key.Key.sameness D.Service.Endpoint.means Metric-as-Weight.order D.Discover.feeds R.Rng.source) (making (length ready.old) (length pending.old) (length records.old) feed words budget first_serial first_ticket) picks.now).state.balancer.words }
-    ensures shares { DrawsFair D.Service.Endpoint.means Metric-as-Weight.order (whole_run (kinds D.Key.Key.sameness D.Service.Endpoint.means Metric-as-Weight.order D.Discover.feeds R.Rng.source) (making (length ready.old) (length pending.old) (length records.old) feed words budget first_serial first_ticket) picks.now).history }
+    ensures answers { IfOk result (λ x. RanAs x (whole_run (kinds D.Key.sameness D.Service.means D.Service.Metric.order D.feeds R.source) (making (length ready.old) (length pending.old) (length records.old) feed words budget first_serial first_ticket) picks.now)) }
+    ensures sent { EachCall ReachedNamed (whole_run (kinds D.Key.sameness D.Service.means D.Service.Metric.order D.feeds R.source) (making (length ready.old) (length pending.old) (length records.old) feed words budget first_serial first_ticket) picks.now).history }
+    ensures six { EachCall SixThen (whole_run (kinds D.Key.sameness D.Service.means D.Service.Metric.order D.feeds R.source) (making (length ready.old) (length pending.old) (length records.old) feed words budget first_serial first_ticket) picks.now).history }
+    ensures never { EachCall NotThreeOrFour (whole_run (kinds D.Key.sameness D.Service.means D.Service.Metric.order D.feeds R.source) (making (length ready.old) (length pending.old) (length records.old) feed words budget first_serial first_ticket) picks.now).history }
+    ensures keys { KeysOnce D.Key.sameness (whole_run (kinds D.Key.sameness D.Service.means D.Service.Metric.order D.feeds R.source) (making (length ready.old) (length pending.old) (length records.old) feed words budget first_serial first_ticket) picks.now).state.cache }
+    ensures serials { SerialsOnce (whole_run (kinds D.Key.sameness D.Service.means D.Service.Metric.order D.feeds R.source) (making (length ready.old) (length pending.old) (length records.old) feed words budget first_serial first_ticket) picks.now).state.cache }
+    ensures counts { CountsRight D.Service.means.count (whole_run (kinds D.Key.sameness D.Service.means D.Service.Metric.order D.feeds R.source) (making (length ready.old) (length pending.old) (length records.old) feed words budget first_serial first_ticket) picks.now).history (whole_run (kinds D.Key.sameness D.Service.means D.Service.Metric.order D.feeds R.source) (making (length ready.old) (length pending.old) (length records.old) feed words budget first_serial first_ticket) picks.now).state.cache }
+    ensures words { Took R.source words (draws_of (whole_run (kinds D.Key.sameness D.Service.means D.Service.Metric.order D.feeds R.source) (making (length ready.old) (length pending.old) (length records.old) feed words budget first_serial first_ticket) picks.now).history) (whole_run (kinds D.Key.sameness D.Service.means D.Service.Metric.order D.feeds R.source) (making (length ready.old) (length pending.old) (length records.old) feed words budget first_serial first_ticket) picks.now).state.balancer.words }
+    ensures shares { DrawsFair D.Service.means D.Service.Metric.order (whole_run (kinds D.Key.sameness D.Service.means D.Service.Metric.order D.feeds R.source) (making (length ready.old) (length pending.old) (length records.old) feed words budget first_serial first_ticket) picks.now).history }
 {
     let mut balance = Balance::from_rng(feed, words, budget);
     let mut cache = ReadyCache::new(ready, pending, first_serial);

@@ -1,4 +1,6 @@
 // Keys, weights, bare services and endpoints: the interfaces, each with what an implementation means (tower: tower-service, load).
+#![tactic(auto)]
+
 ghost use Rattle.std.specs.Prelude.{◌≡◌, is_some};
 ghost use Rattle.service.specs.Meaning.{Sameness, Weights, Services, Endpoints, service_called, endpoint_called};
 

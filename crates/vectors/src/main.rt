@@ -1,4 +1,6 @@
 // Published and worked values: each line on standard input asks for one, and the answer is printed beside it.
+#![tactic(auto)]
+
 use anyhow::anyhow;
 use decay::Decay;
 use decay::halving::Halving;

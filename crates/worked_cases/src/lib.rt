@@ -1,4 +1,6 @@
 // Worked cases, stated by the definitions of the contracts: no other code.
+#![tactic(auto)]
+
 ghost use Rattle.worked_cases.specs.Cases.{WorkedCases};
 
 // The cases hold.

@@ -21,7 +21,7 @@ returns-in-Ready g c =
     let there : at (take c.args.len xs) i ≡ Some e = at_get xs c.args.len i c.index-items-i.result (omega arith) (omega arith) in
     record {
       answer = rw there (ap (told e) c.in-Ready.ensures.answer);
-      after = rw there (ap (λ s. set xs i (holding e s)) c.poll-ready.ensures.after);
+      after = rw there (ap (λ s. set xs i (holding e s)) c.poll_ready.ensures.after);
     }
 
 pub returns-in-Pending : goal.returns-in-Pending
@@ -32,7 +32,7 @@ returns-in-Pending g c =
     let there : at (take c.args.len xs) i ≡ Some e = at_get xs c.args.len i c.index-items-i.result (omega arith) (omega arith) in
     record {
       answer = rw there (ap (told e) c.in-Pending.ensures.answer);
-      after = rw there (ap (λ s. set xs i (holding e s)) c.poll-ready.ensures.after);
+      after = rw there (ap (λ s. set xs i (holding e s)) c.poll_ready.ensures.after);
     }
 
 pub returns-in-Failed : goal.returns-in-Failed
@@ -41,8 +41,8 @@ returns-in-Failed g c =
     let i = c.args.i in
     let e = get_or xs i c.index-items-i.result in
     let there : at (take c.args.len xs) i ≡ Some e = at_get xs c.args.len i c.index-items-i.result (omega arith) (omega arith) in
-    let same = get_or-set_same xs i (holding e c.poll-ready.new.self) c.index-items-i-in-Failed.result (omega arith) in
+    let same = get_or-set_same xs i (holding e c.poll_ready.new.self) c.index-items-i-in-Failed.result (omega arith) in
     record {
       answer = rw there (ap (λ z. Err (record { key = z.key; error = c.in-Failed.error })) same ∙ ap (told e) c.in-Failed.ensures.answer);
-      after = rw there (ap (λ s. set xs i (holding e s)) c.poll-ready.ensures.after);
+      after = rw there (ap (λ s. set xs i (holding e s)) c.poll_ready.ensures.after);
     }

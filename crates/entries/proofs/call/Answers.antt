@@ -15,8 +15,8 @@ returns-then-i-min g c =
     let none : at (take c.args.len xs) c.args.i ≡ None = at_past (take c.args.len xs) c.args.i (simp length-take (omega arith)) in
     record { answer = rw none refl; after = rw none refl }
 
-pub returns-in-err-response : goal.returns-in-err-response
-returns-in-err-response g c =
+pub returns-in_err-response : goal.returns-in_err-response
+returns-in_err-response g c =
     let m = g.S.Endpoint.means in
     let xs = c.args.items.now in
     let i = c.args.i in
@@ -24,10 +24,10 @@ returns-in-err-response g c =
     let e = get_or xs i d in
     let there : at (take c.args.len xs) i ≡ Some e = at_get xs c.args.len i d (omega arith) (omega arith) in
     let left = m.accepted e.endpoint c.args.request c.args.at in
-    let x = c.in-err-response.field-0.0 in
-    let no = refused (refused_by m e.endpoint) left.answer e.endpoint left.after x (sym c.in-err-response.was ∙ c.call.ensures.answer) in
+    let x = c.in_err-response.field-0.0 in
+    let no = refused (refused_by m e.endpoint) left.answer e.endpoint left.after x (sym c.in_err-response.was ∙ c.call.ensures.answer) in
     let why : refused_by m e.endpoint ≡ Some x = no.why in
-    let p = err_from_is_err_and c.from-residual.result c.from-residual.ensures.1 in
+    let p = err_from_is_err_and c.from_residual.result c.from_residual.ensures.1 in
     record {
       answer = rw (there, why) (p.1 ∙ ap Err p.2);
       after = rw (there, why) (ap (λ s. set xs i (holding e s)) (c.call.ensures.after ∙ no.left) ∙ set-get_or xs i d);
@@ -42,7 +42,7 @@ returns g c =
     let e = get_or xs i d in
     let there : at (take c.args.len xs) i ≡ Some e = at_get xs c.args.len i d (omega arith) (omega arith) in
     let left = m.accepted e.endpoint c.args.request c.args.at in
-    let ok = accepted (refused_by m e.endpoint) left.answer e.endpoint left.after c.in-ok-response.response (sym c.in-ok-response.was ∙ c.call.ensures.answer) in
+    let ok = accepted (refused_by m e.endpoint) left.answer e.endpoint left.after c.in_ok-response.response (sym c.in_ok-response.was ∙ c.call.ensures.answer) in
     let why : refused_by m e.endpoint ≡ None = ok.why in
     record {
       answer = rw (there, why) (ap Ok ok.said);

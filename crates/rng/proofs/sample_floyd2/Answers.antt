@@ -8,10 +8,10 @@ returns g c =
     let r = c.args.rng.now in
     let n = c.args.length in
     record {
-      answer = c.two-places.ensures.answer;
-      after = c.two-places.ensures.after;
-      floyd = of_floyd source r n c.two-places.result c.two-places.ensures.answer;
-      different = different source r n c.two-places.result c.two-places.ensures.answer;
+      answer = c.two_places.ensures.answer;
+      after = c.two_places.ensures.after;
+      floyd = of_floyd source r n c.two_places.result c.two_places.ensures.answer;
+      different = different source r n c.two_places.result c.two_places.ensures.answer;
       pairs = one_pair_each n;
       shares = fair_shares n;
     }

@@ -14,7 +14,7 @@ returns g c =
     let made = making (length a.ready.now) (length a.pending.now) (length a.records.now) a.feed a.words a.budget a.first_serial a.first_ticket in
     let p = promised m made a.picks.now in
     record {
-      answers = made_map c.closing.result _ _ (λ x k. ran_as m made a.picks.now x (vec_items c.in-ok-answers.answers) c.from-rng-balance.result c.apply_all.new.balance (cache_view c.new_cache.result) (cache_view c.apply_all.new.cache) (docket_view c.new_docket.result) (docket_view c.apply_all.new.docket) c.from-rng-balance.ensures c.new_cache.ensures.made c.new_docket.ensures c.in-ok-answers.ensures k) c.closing.ensures;
+      answers = made_map c.closing.result _ _ (λ x k. ran_as m made a.picks.now x (vec_items c.in_ok-answers.answers) c.from_rng-balance.result c.apply_all.new.balance (cache_view c.new_cache.result) (cache_view c.apply_all.new.cache) (docket_view c.new_docket.result) (docket_view c.apply_all.new.docket) c.from_rng-balance.ensures c.new_cache.ensures.made c.new_docket.ensures c.in_ok-answers.ensures k) c.closing.ensures;
       sent = p.sent;
       six = p.six;
       never = p.never;
@@ -25,14 +25,14 @@ returns g c =
       shares = p.shares;
     }
 
-pub returns-in-err-answers : goal.returns-in-err-answers
-returns-in-err-answers g c =
+pub returns-in_err-answers : goal.returns-in_err-answers
+returns-in_err-answers g c =
     let m = kinds g.Key.Key.sameness g.Service.Endpoint.means g.Metric.Weight.order g.D.Discover.feeds g.R.Rng.source in
     let a = c.args in
     let made = making (length a.ready.now) (length a.pending.now) (length a.records.now) a.feed a.words a.budget a.first_serial a.first_ticket in
     let p = promised m made a.picks.now in
     record {
-      answers = made_none c.from-residual.result _ c.from-residual.ensures.0;
+      answers = made_none c.from_residual.result _ c.from_residual.ensures.0;
       sent = p.sent;
       six = p.six;
       never = p.never;

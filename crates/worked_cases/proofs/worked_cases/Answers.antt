@@ -17,7 +17,7 @@ one_place_left c e t k s =
 
 pub returns : goal.returns
 returns c =
-    let known = c.worked-cases.ensures in
+    let known = c.worked_cases.ensures in
     record {
       different_remainders = refl;
       equal_remainders = refl;

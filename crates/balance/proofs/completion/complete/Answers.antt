@@ -6,9 +6,9 @@ use Rattle.balance_model.specs.Balance.{CompleteOutcome, complete}
 use Rattle.balance_model.proofs.Dockets.{removed_none, complete_unknown}
 use Rattle.balance.proofs.completion.complete.Goals as goal
 
-pub returns-in-default : goal.returns-in-default
-returns-in-default g c =
-    let a = c.in-default.ensures in
+pub returns-in_default : goal.returns-in_default
+returns-in_default g c =
+    let a = c.in_default.ensures in
     let cache = cache_view c.args.cache.now in
     let docket = docket_view c.args.docket.now in
     let whole = complete_unknown g.S.Endpoint.means c.args.at cache docket c.args.ticket (sym a.answer) in

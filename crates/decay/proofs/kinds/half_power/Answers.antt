@@ -5,11 +5,11 @@ use Rattle.rounding.proofs.Values.{number_bits}
 use Rattle.rounding.proofs.Kept.{half_normal, half_small, half_none, zero_bits}
 use Rattle.decay.proofs.kinds.half_power.Goals as goal
 
-pub float-from-bits-result : goal.float-from-bits-result
-float-from-bits-result c = number_bits binary64 ((1023 - c.args.k) * 2 ^ 52 % 2 ^ 64) (omega arith)
+pub float_from_bits-result : goal.float_from_bits-result
+float_from_bits-result c = number_bits binary64 ((1023 - c.args.k) * 2 ^ 52 % 2 ^ 64) (omega arith)
 
-pub float-from-bits-result-then-k-lt1075 : goal.float-from-bits-result-then-k-lt1075
-float-from-bits-result-then-k-lt1075 c =
+pub float_from_bits-result-then-k-lt1075 : goal.float_from_bits-result-then-k-lt1075
+float_from_bits-result-then-k-lt1075 c =
     let k = c.args.k in
     let l : 2 ^ (1074 - k) < 2 ^ 52 = pow-lt {i = 1074 - k} {j = 52} (omega arith) in
     number_bits binary64 (1 * 2 ^ (1074 - k) % 2 ^ 64) (omega arith)

@@ -1,4 +1,4 @@
 use Rattle.keys.proofs.naming.+write_letters.Given as goal
 
-abbrev pub decreases-write-letters : goal.decreases-write-letters
-decreases-write-letters g l = l.letters
+abbrev pub decreases-write_letters : goal.decreases-write_letters
+decreases-write_letters g l = l.letters

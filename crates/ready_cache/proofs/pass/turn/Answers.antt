@@ -28,7 +28,7 @@ returns-else-ready g c =
     let d = c.index-items-read.result in
     let e = get_or xs p.read d in
     let here = at_get xs (length xs) p.read d c.requires.1 c.requires.1 in
-    turned_pending g.S.Endpoint.means c.args.at xs p e (get_or_default xs p.read d e c.requires.1) c.if-items-read.false c.ask.new.items e (length xs) here c.requires.1 c.ask.ensures.after c.move-down.new.items c.move-down.ensures (sym (ap Ok c.if-ready.false) ∙ c.in-Ok.ensures.answer)
+    turned_pending g.S.Endpoint.means c.args.at xs p e (get_or_default xs p.read d e c.requires.1) c.if-items-read.false c.ask.new.items e (length xs) here c.requires.1 c.ask.ensures.after c.move_down.new.items c.move_down.ensures (sym (ap Ok c.if-ready.false) ∙ c.in-Ok.ensures.answer)
 
 pub returns-in-Err : goal.returns-in-Err
 returns-in-Err g c =

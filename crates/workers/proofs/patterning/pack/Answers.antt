@@ -19,11 +19,11 @@ at_most_two n a e = omega (arith, e, code_small a)
 pub loop-i-init : goal.loop-i-init
 loop-i-init c = sym (ap packed (drop_all (length c.args.pattern.now) c.args.pattern.now (omega arith)))
 
-pub overflow-mul-answers : goal.overflow-mul-answers
-overflow-mul-answers c = omega (arith, so_far c)
+pub overflow_mul-answers : goal.overflow_mul-answers
+overflow_mul-answers c = omega (arith, so_far c)
 
-pub overflow-add-answers : goal.overflow-add-answers
-overflow-add-answers c = omega (arith, so_far c, at_most_two c.code.result _ c.code.ensures)
+pub overflow_add-answers : goal.overflow_add-answers
+overflow_add-answers c = omega (arith, so_far c, at_most_two c.code.result _ c.code.ensures)
 
 pub loop-i-preserved : goal.loop-i-preserved
 loop-i-preserved c = packed_more c.args.pattern.now c.loop-i.i c.code.result c.loop-i.answers _ c.loop-i-test.true c.loop-i.auto.i c.code.ensures c.loop-i.invariant

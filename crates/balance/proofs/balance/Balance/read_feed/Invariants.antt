@@ -8,7 +8,7 @@ abbrev pub invariant-loop-turn : goal.invariant-loop-turn
 invariant-loop-turn g l =
     let m = kinds g.Key.Key.sameness g.Service.Endpoint.means g.Metric.Weight.order g.D.Discover.feeds g.R.Rng.source in
     FeedLeft
-    (read_feed m l.at (l.budget - l.-turn) l.self.discover l.self.selected (cache_view l.cache))
+    (read_feed m l.at (l.budget - l._turn) l.self.discover l.self.selected (cache_view l.cache))
     (read_feed m l.at l.budget l.initial.self.discover l.initial.self.selected (cache_view l.initial.cache))
     l.self
     l.initial.self

@@ -13,9 +13,9 @@ there t xs i e n =
     let f = found (λ r. eqb r.ticket t) (λ r. r) [] xs i e in
     no_some (sym n ∙ (at_some xs i f.below).1)
 
-pub returns-in-err-found : goal.returns-in-err-found
-returns-in-err-found c =
+pub returns-in_err-found : goal.returns-in_err-found
+returns-in_err-found c =
     let memory : List DocketRecord = c.args.self.now.records.now in
-    let none : at (view c.args.self.now).records c.in-ok-place.place ≡ None =
-    ap (λ n. at (take n memory) c.in-ok-place.place) (sym c.end-len.ensures.cut) ∙ sym c.in-err-found.ensures.answer in
-    absurd (there c.args.ticket (view c.args.self.now).records c.in-ok-place.place (sym c.in-ok-place.ensures) none)
+    let none : at (view c.args.self.now).records c.in_ok-place.place ≡ None =
+    ap (λ n. at (take n memory) c.in_ok-place.place) (sym c.end-len.ensures.cut) ∙ sym c.in_err-found.ensures.answer in
+    absurd (there c.args.ticket (view c.args.self.now).records c.in_ok-place.place (sym c.in_ok-place.ensures) none)

@@ -8,8 +8,8 @@ use Rattle.ready_cache.proofs.Views.{leaves}
 use Rattle.ready_cache.proofs.Steps.{demoted, demoted_none}
 use Rattle.ready_cache.proofs.cache.ReadyCache.demote.Goals as goal
 
-pub set-aside-end-requires : goal.set-aside-end-requires
-set-aside-end-requires g c = omega (arith, c.lengths-l.ensures.capacity, c.lengths-l.ensures.fits, c.in-Some.ensures.within.0)
+pub set_aside-end-requires : goal.set_aside-end-requires
+set_aside-end-requires g c = omega (arith, c.lengths-l.ensures.capacity, c.lengths-l.ensures.fits, c.in-Some.ensures.within.0)
 
 pub returns-in-Some : goal.returns-in-Some
 returns-in-Some g c =
@@ -24,7 +24,7 @@ returns-in-Some g c =
     let e = c.in-Some.entry in
     let long : min l.ready (length xs) ≡ l.ready = omega (arith, told.capacity, told.fits) in
     let v = stored xs ys l.ready l.pending self.next_serial self.resume in
-    leaves xs ys c.swap-remove.new.items c.set-aside-end.new.items (swap_remove (take l.ready xs) i) (set_aside keys e (take l.pending ys)) (l.ready - 1) c.set-aside-end.result self.next_serial self.resume c.swap-remove.auto.items c.set-aside-end.auto.items (omega (arith, told.capacity, told.fits, gone.within.0, c.set-aside-end.ensures.most)) (ap (λ n. take (n - 1) c.swap-remove.new.items) (sym long) ∙ gone.after) c.set-aside-end.ensures.list
+    leaves xs ys c.swap_remove.new.items c.set_aside-end.new.items (swap_remove (take l.ready xs) i) (set_aside keys e (take l.pending ys)) (l.ready - 1) c.set_aside-end.result self.next_serial self.resume c.swap_remove.auto.items c.set_aside-end.auto.items (omega (arith, told.capacity, told.fits, gone.within.0, c.set_aside-end.ensures.most)) (ap (λ n. take (n - 1) c.swap_remove.new.items) (sym long) ∙ gone.after) c.set_aside-end.ensures.list
     ∙ ap (λ o. by_some o v (λ z. with_lists v (swap_remove v.ready i) (set_aside keys z v.pending))) gone.answer
     ∙ ap (demoted v i keys) (sym told.lists)
 

@@ -5,8 +5,8 @@ use Rattle.ready_cache.proofs.Passes.{ends_as}
 use Rattle.ready_cache.proofs.Polls.{poll_answer, poll_after, emptied_none, emptied_some}
 use Rattle.ready_cache.proofs.cache.ReadyCache.poll_pending.Goals as goal
 
-pub returns-in-err-passed : goal.returns-in-err-passed
-returns-in-err-passed g c =
+pub returns-in_err-passed : goal.returns-in_err-passed
+returns-in_err-passed g c =
     let keys = g.K.Key.sameness in
     let m = g.S.Endpoint.means in
     let t = c.args.at in
@@ -16,12 +16,12 @@ returns-in-err-passed g c =
     let l = c.lengths-l.result in
     let told = c.lengths-l.ensures in
     let on = c.pass-passed in
-    let x = c.in-err-passed.field-0.0 in
+    let x = c.in_err-passed.field-0.0 in
     let xs' = on.new.self.ready.now in
     let ys' = on.new.self.pending.now in
     let q = on.new.places in
-    let over = ends_as keys m t l.capacity l.pending xs ys xs' ys' _ q on.result (Err x) c.in-err-passed.was on.ensures.ends in
-    let p = err_from_is_err_and c.from-residual.result c.from-residual.ensures.1 in
+    let over = ends_as keys m t l.capacity l.pending xs ys xs' ys' _ q on.result (Err x) c.in_err-passed.was on.ensures.ends in
+    let p = err_from_is_err_and c.from_residual.result c.from_residual.ensures.1 in
     record {
       answer = p.1 ∙ ap Err p.2 ∙ poll_answer keys m t (view self) xs ys xs' ys' c.close-left.new.items l.ready l.pending self.next_serial self.resume q (Err x) c.min-from.result c.close-left.result l.capacity told.lists (omega (arith, told.capacity, told.fits)) c.min-from.ensures told.capacity over c.close-left.auto.items c.close-left.ensures.list c.close-left.ensures.length;
       after = poll_after keys m t (view self) xs ys xs' ys' c.close-left.new.items l.ready l.pending self.next_serial self.resume q (Err x) c.min-from.result c.close-left.result l.capacity told.lists (omega (arith, told.capacity, told.fits)) c.min-from.ensures told.capacity over c.close-left.auto.items c.close-left.ensures.list c.close-left.ensures.length on.new.self.next_serial q.write on.ensures.next refl;
@@ -41,7 +41,7 @@ returns-then-left-eq0 g c =
     let xs' = on.new.self.ready.now in
     let ys' = on.new.self.pending.now in
     let q = on.new.places in
-    let over = ends_as keys m t l.capacity l.pending xs ys xs' ys' _ q on.result (Ok tt) c.in-ok-passed.was on.ensures.ends in
+    let over = ends_as keys m t l.capacity l.pending xs ys xs' ys' _ q on.result (Ok tt) c.in_ok-passed.was on.ensures.ends in
     let none : q.write ≡ 0 = omega (arith, c.close-left.ensures.length, c.if-left-eq0.true) in
     record {
       answer = ap Ok (sym (emptied_none ys' q.write none)) ∙ poll_answer keys m t (view self) xs ys xs' ys' c.close-left.new.items l.ready l.pending self.next_serial self.resume q (Ok tt) c.min-from.result c.close-left.result l.capacity told.lists (omega (arith, told.capacity, told.fits)) c.min-from.ensures told.capacity over c.close-left.auto.items c.close-left.ensures.list c.close-left.ensures.length;
@@ -62,7 +62,7 @@ returns-else-left-eq0 g c =
     let xs' = on.new.self.ready.now in
     let ys' = on.new.self.pending.now in
     let q = on.new.places in
-    let over = ends_as keys m t l.capacity l.pending xs ys xs' ys' _ q on.result (Ok tt) c.in-ok-passed.was on.ensures.ends in
+    let over = ends_as keys m t l.capacity l.pending xs ys xs' ys' _ q on.result (Ok tt) c.in_ok-passed.was on.ensures.ends in
     let some : 0 < q.write = omega (arith, c.close-left.ensures.length, c.if-left-eq0.false, over.done refl) in
     let long : q.write ≤ length ys' = omega (arith, over.went.behind, over.went.within, over.went.pending_long, told.capacity, told.fits) in
     record {

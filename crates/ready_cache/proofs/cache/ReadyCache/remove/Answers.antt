@@ -15,7 +15,7 @@ returns-in-Some g c =
     let gone = c.in-Some.ensures in
     let i = c.args.i in
     let long : min l.ready (length xs) ≡ l.ready = omega (arith, told.capacity, told.fits) in
-    leaves xs self.pending.now c.swap-remove.new.items self.pending.now (swap_remove (take l.ready xs) i) (take l.pending self.pending.now) (l.ready - 1) l.pending self.next_serial self.resume c.swap-remove.auto.items refl (omega (arith, told.capacity, told.fits)) (ap (λ n. take (n - 1) c.swap-remove.new.items) (sym long) ∙ gone.after) refl
+    leaves xs self.pending.now c.swap_remove.new.items self.pending.now (swap_remove (take l.ready xs) i) (take l.pending self.pending.now) (l.ready - 1) l.pending self.next_serial self.resume c.swap_remove.auto.items refl (omega (arith, told.capacity, told.fits)) (ap (λ n. take (n - 1) c.swap_remove.new.items) (sym long) ∙ gone.after) refl
     ∙ ap (λ v. with_lists v (swap_remove v.ready i) v.pending) (sym told.lists)
 
 pub returns-in-None : goal.returns-in-None
