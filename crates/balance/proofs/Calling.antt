@@ -36,18 +36,18 @@ module _ {K S Q A E W D F R : Type 0} (m : Meanings K S Q A E W D F R) (now : �
       (λ r. refused m now st (error.Cache r))
 
   reaches : (i : ℕ) (e : Entry K S) → b.fresh ≡ true → docket_refuses d ≡ None → b.selected ≡ Some i → at c.ready i ≡ Some e → call m now st q ≡ noting i e (cache.call m.keys m.endpoints now c i q).answer
-  reaches i e fresh open-docket chosen here =
+  reaches i e fresh open_docket chosen here =
       ap (λ (t : Bool). cond (not t) (refused m now st error.NotFresh) (by_some (docket_refuses d) (by_some b.selected (refused m now st (error.Cache NotReady)) (call_at m now st q)) (λ r. refused m now st (error.Docket r)))) fresh
-      ∙ ap (λ (o : Option DocketRefusal). by_some o (by_some b.selected (refused m now st (error.Cache NotReady)) (call_at m now st q)) (λ r. refused m now st (error.Docket r))) open-docket
+      ∙ ap (λ (o : Option DocketRefusal). by_some o (by_some b.selected (refused m now st (error.Cache NotReady)) (call_at m now st q)) (λ r. refused m now st (error.Docket r))) open_docket
       ∙ ap (λ (o : Option ℕ). by_some o (refused m now st (error.Cache NotReady)) (call_at m now st q)) chosen
       ∙ ap (λ (o : Option (Entry K S)). by_some o (refused m now st (error.Cache NotReady)) (λ x. noting i x (cache.call m.keys m.endpoints now c i q).answer)) here
 
   pub cache_refuses : (c' : Cache K S) (i : ℕ) (e : Entry K S) (r : CallRefusal) →
       b.fresh ≡ true → docket_refuses d ≡ None → b.selected ≡ Some i → at c.ready i ≡ Some e → (cache.call m.keys m.endpoints now c i q).answer ≡ Err r → c' ≡ (cache.call m.keys m.endpoints now c i q).after →
       (Err (error.Cache r) ≡ call_answer (call m now (state b c d) q).answer) × (state b c' d ≡ (call m now (state b c d) q).after)
-  cache_refuses c' i e r fresh open-docket chosen here refusal after =
+  cache_refuses c' i e r fresh open_docket chosen here refusal after =
       let same : c' ≡ c = after ∙ call_refused m.keys m.endpoints now c i q r refusal in
-      let whole : call m now (state b c d) q ≡ refused m now st (error.Cache r) = reaches i e fresh open-docket chosen here ∙ ap (noting i e) refusal in
+      let whole : call m now (state b c d) q ≡ refused m now st (error.Cache r) = reaches i e fresh open_docket chosen here ∙ ap (noting i e) refusal in
       (sym (ap (λ o. call_answer o.answer) whole), ap (λ x. state b x d) same ∙ sym (ap (λ o. o.after) whole))
 
 -- a docket that admits a request refuses nothing

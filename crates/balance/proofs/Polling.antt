@@ -36,8 +36,7 @@ pub poll_faults : {K S Q A E W D F R : Type 0} (m : Meanings K S Q A E W D F R) 
     b₀ ≡ record { discover = b.discover; rng = b.rng; budget = b.budget; selected = b.selected; fresh = false } →
     FedAs (read_feed m now b.budget b.discover b.selected c) (Err x) b₀ b₁ c₁ →
     (Err x ≡ (poll m now (view b) c).answer) × (view b₁ ≡ (poll m now (view b) c).balancer) × (c₁ ≡ (poll m now (view b) c).cache)
-unfolding poll
-poll_faults {K} {S} {E = E} {D = D} {F = F} {R = R} m now b b₀ b₁ c c₁ x stale fed-as =
+poll_faults {K} {S} {E = E} {D = D} {F = F} {R = R} m now b b₀ b₁ c c₁ x stale fed_as =
     let fed : Fed K S D F = read_feed m now b.budget b.discover b.selected c in
     let settled : Settled K S E = settle_all m.keys m.endpoints now fed.cache in
     let sought : Sought K S E R = select m now fed.selected settled.cache b.rng in
@@ -45,15 +44,15 @@ poll_faults {K} {S} {E = E} {D = D} {F = F} {R = R} m now b b₀ b₁ c c₁ x s
     by_some fault
     (by_some settled.stuck (ended m now (view b) fed settled sought) (λ k. faulted m now (view b) fed (NoPlace k) settled.cache settled.asked))
     (λ f. faulted m now (view b) fed f fed.cache []) in
-    let whole : poll m now (view b) c ≡ faulted m now (view b) fed x fed.cache [] = ap put_together (fault_is fed.fault x fed-as.answer) in (
+    let whole : poll m now (view b) c ≡ faulted m now (view b) fed x fed.cache [] = ap put_together (fault_is fed.fault x fed_as.answer) in (
       sym (ap (λ (p : PollOutcome K S E D F R). p.answer) whole),
-      ap view (fed-as.balancer ∙ ap (λ (y : Balance D R). record { discover = fed.feed; rng = y.rng; budget = y.budget; selected = fed.selected; fresh = y.fresh }) stale) ∙ sym (ap (λ (p : PollOutcome K S E D F R). p.balancer) whole),
-      fed-as.cache ∙ sym (ap (λ (p : PollOutcome K S E D F R). p.cache) whole),
+      ap view (fed_as.balancer ∙ ap (λ (y : Balance D R). record { discover = fed.feed; rng = y.rng; budget = y.budget; selected = fed.selected; fresh = y.fresh }) stale) ∙ sym (ap (λ (p : PollOutcome K S E D F R). p.balancer) whole),
+      fed_as.cache ∙ sym (ap (λ (p : PollOutcome K S E D F R). p.cache) whole),
     )
 
 module _ {K S Q A E W D F R : Type 0} (m : Meanings K S Q A E W D F R) (now : ℕ) (b b₀ b₁ : Balance D R) (c c₁ c₂ : Cache K S)
     (stale : b₀ ≡ record { discover = b.discover; rng = b.rng; budget = b.budget; selected = b.selected; fresh = false })
-    (fed-as : FedAs (read_feed m now b.budget b.discover b.selected c) (Ok tt) b₀ b₁ c₁)
+    (fed_as : FedAs (read_feed m now b.budget b.discover b.selected c) (Ok tt) b₀ b₁ c₁)
   where
     abbrev fed : Fed K S D F
     fed = read_feed m now b.budget b.discover b.selected c
@@ -65,10 +64,10 @@ module _ {K S Q A E W D F R : Type 0} (m : Meanings K S Q A E W D F R) (now : �
     sought = select m now fed.selected settled.cache b.rng
 
     fault_none : fed.fault ≡ None
-    fault_none = no_fault fed.fault fed-as.answer
+    fault_none = no_fault fed.fault fed_as.answer
 
     first_balancer : b₁ ≡ record { discover = fed.feed; rng = b.rng; budget = b.budget; selected = fed.selected; fresh = false }
-    first_balancer = fed-as.balancer ∙ ap (λ (x : Balance D R). record { discover = fed.feed; rng = x.rng; budget = x.budget; selected = fed.selected; fresh = x.fresh }) stale
+    first_balancer = fed_as.balancer ∙ ap (λ (x : Balance D R). record { discover = fed.feed; rng = x.rng; budget = x.budget; selected = fed.selected; fresh = x.fresh }) stale
 
     -- what a poll comes to, by its parts
     abbrev put_together : Option (PollError K F) → Option K → PollOutcome K S E D F R
@@ -81,9 +80,8 @@ module _ {K S Q A E W D F R : Type 0} (m : Meanings K S Q A E W D F R) (now : �
 
     pub poll_sticks : (x : PollError K F) → SettledAs (settle_all m.keys m.endpoints now c₁) (Err x) c₂ →
         (Err x ≡ (poll m now (view b) c).answer) × (view b₁ ≡ (poll m now (view b) c).balancer) × (c₂ ≡ (poll m now (view b) c).cache)
-    unfolding poll
     poll_sticks x at_first =
-        let s : SettledAs settled (Err x) c₂ = subst (λ (z : Cache K S). SettledAs (settle_all m.keys m.endpoints now z) (Err x) c₂) fed-as.cache at_first in
+        let s : SettledAs settled (Err x) c₂ = subst (λ (z : Cache K S). SettledAs (settle_all m.keys m.endpoints now z) (Err x) c₂) fed_as.cache at_first in
         let k = stuck_at settled.stuck x settled.lost s.answer in
         let whole : poll m now (view b) c ≡ faulted m now (view b) fed (NoPlace k.0) settled.cache settled.asked = ap₂ put_together fault_none k.1 in (
           ap Err k.2 ∙ sym (ap (λ (p : PollOutcome K S E D F R). p.answer) whole),
@@ -96,9 +94,8 @@ module _ {K S Q A E W D F R : Type 0} (m : Meanings K S Q A E W D F R) (now : �
     pub poll_ends : (n : ℕ) (place : Option ℕ) (lost : ℕ) (b₂ : Balance D R) (c₃ : Cache K S) (worker : Poll ℕ) (fresh : Bool) →
         SettledAs {F = F} (settle_all m.keys m.endpoints now c₁) (Ok n) c₂ → SoughtAs (select m now b₁.selected c₂ b₁.rng) n (place, lost) b₁ b₂ c₃ → worker ≡ serial_at c₃ place → fresh ≡ is_some place →
         (Ok (record { worker = worker; lost = lost }) ≡ (poll m now (view b) c).answer) × (record { feed = b₂.discover; words = b₂.rng; budget = b₂.budget; selected = place; fresh = fresh } ≡ (poll m now (view b) c).balancer) × (c₃ ≡ (poll m now (view b) c).cache)
-    unfolding poll
     poll_ends n place lost b₂ c₃ worker fresh at_first at_last named marked =
-        let s : SettledAs {F = F} settled (Ok n) c₂ = subst (λ (z : Cache K S). SettledAs {F = F} (settle_all m.keys m.endpoints now z) (Ok n) c₂) fed-as.cache at_first in
+        let s : SettledAs {F = F} settled (Ok n) c₂ = subst (λ (z : Cache K S). SettledAs {F = F} (settle_all m.keys m.endpoints now z) (Ok n) c₂) fed_as.cache at_first in
         let k = not_stuck {F = F} settled.stuck n settled.lost s.answer in
         let whole : poll m now (view b) c ≡ ended m now (view b) fed settled sought = ap₂ put_together fault_none k.0 in
         let chosen : b₁.selected ≡ fed.selected = ap (λ (x : Balance D R). x.selected) first_balancer in

@@ -25,9 +25,9 @@ use Rattle.balance.specs.View.{drawn_place, with_words, check_selected, lost_by,
 module _ {K S Q A E W D F R : Type 0} (m : Meanings K S Q A E W D F R) (now : ℕ) (selected : Option ℕ) (c c₁ c₂ : Cache K S) (whole : Sought K S E R) (lost first gone : ℕ) (b b₁ before : Balance D R)
     (left : SearchLeft (select m now selected c b.rng) whole lost first c b before)
     (asked : Some gone ≡ lost_by (check_selected m.keys m.endpoints now c selected).answer)
-    (left-by-check : c₁ ≡ (check_selected m.keys m.endpoints now c selected).after)
-    (drawn-words : b₁ ≡ with_words b (draw m.endpoints m.weights now m.words c₁ b.rng).words)
-    (drawn-cache : c₂ ≡ (draw m.endpoints m.weights now m.words c₁ b.rng).cache)
+    (left_by_check : c₁ ≡ (check_selected m.keys m.endpoints now c selected).after)
+    (drawn_words : b₁ ≡ with_words b (draw m.endpoints m.weights now m.words c₁ b.rng).words)
+    (drawn_cache : c₂ ≡ (draw m.endpoints m.weights now m.words c₁ b.rng).cache)
   where
     -- the worker asked was not ready: the search goes on over what the check left
     record Missed (x y : Sought K S E R) : Type 0 where
@@ -37,7 +37,7 @@ module _ {K S Q A E W D F R : Type 0} (m : Meanings K S Q A E W D F R) (now : �
       count : x.lost ≡ gone + y.lost
 
     missed : Missed (select m now selected c b.rng) (seek_all m now c₁ b.rng)
-    missed = subst (λ (x : Cache K S). Missed (select m now selected c b.rng) (seek_all m now x b.rng)) (sym left-by-check) (by_selected selected asked)
+    missed = subst (λ (x : Cache K S). Missed (select m now selected c b.rng) (seek_all m now x b.rng)) (sym left_by_check) (by_selected selected asked)
       where
         by_answer : (i : ℕ) (v : Result Bool (Failed K E)) → Some gone ≡ lost_by v →
             let k = check m.keys m.endpoints now c i in
@@ -52,7 +52,7 @@ module _ {K S Q A E W D F R : Type 0} (m : Meanings K S Q A E W D F R) (now : �
 
     -- nobody is lost but the one that failed
     held_after : held c₁ + gone ≤ held c
-    held_after = subst (λ (x : Cache K S). held x + gone ≤ held c) (sym left-by-check) (by_selected selected asked)
+    held_after = subst (λ (x : Cache K S). held x + gone ≤ held c) (sym left_by_check) (by_selected selected asked)
       where
         by_selected : (o : Option ℕ) → Some gone ≡ lost_by (check_selected m.keys m.endpoints now c o).answer → held (check_selected m.keys m.endpoints now c o).after + gone ≤ held c
         by_selected None e = let z : gone ≡ 0 = cc in omega arith
@@ -70,7 +70,7 @@ module _ {K S Q A E W D F R : Type 0} (m : Meanings K S Q A E W D F R) (now : �
     d = draw m.endpoints m.weights now m.words c₁ b.rng
 
     same_balancer : b₁ ≡ with_words before b₁.rng
-    same_balancer = drawn-words ∙ ap (λ (x : Balance D R). with_words x d.words) left.same ∙ ap (λ (r : R). with_words before r) (sym (ap (λ (x : Balance D R). x.rng) drawn-words))
+    same_balancer = drawn_words ∙ ap (λ (x : Balance D R). with_words x d.words) left.same ∙ ap (λ (r : R). with_words before r) (sym (ap (λ (x : Balance D R). x.rng) drawn_words))
 
     -- ---- nobody is ready
 
@@ -86,8 +86,8 @@ module _ {K S Q A E W D F R : Type 0} (m : Meanings K S Q A E W D F R) (now : �
         record {
           place = sym (ap (λ (s : Sought K S E R). s.place) over) ∙ sym k.place ∙ left.place;
           count = omega arith;
-          balancer = same_balancer ∙ ap (with_words before) (ap (λ (x : Balance D R). x.rng) drawn-words ∙ ap (λ (x : Drawn K S R). x.words) still ∙ sym (ap (λ (s : Sought K S E R). s.words) over) ∙ sym k.words ∙ left.words);
-          cache = drawn-cache ∙ ap (λ (x : Drawn K S R). x.cache) still ∙ sym (ap (λ (s : Sought K S E R). s.cache) over) ∙ sym k.cache ∙ left.cache;
+          balancer = same_balancer ∙ ap (with_words before) (ap (λ (x : Balance D R). x.rng) drawn_words ∙ ap (λ (x : Drawn K S R). x.words) still ∙ sym (ap (λ (s : Sought K S E R). s.words) over) ∙ sym k.words ∙ left.words);
+          cache = drawn_cache ∙ ap (λ (x : Drawn K S R). x.cache) still ∙ sym (ap (λ (s : Sought K S E R). s.cache) over) ∙ sym k.cache ∙ left.cache;
         }
       where
         empty : (t : Bool) → eqb (length c₁.ready) 0 ≡ t → None ≡ cond t None (Some d.place) → length c₁.ready ≡ 0
@@ -112,23 +112,23 @@ module _ {K S Q A E W D F R : Type 0} (m : Meanings K S Q A E W D F R) (now : �
       found = drawn (eqb (length c₁.ready) 0) refl some
 
       same_length : length c₂.ready ≡ length c₁.ready
-      same_length = ap (λ (x : Cache K S). length x.ready) drawn-cache ∙ (draw_within m now c₁ b.rng).same
+      same_length = ap (λ (x : Cache K S). length x.ready) drawn_cache ∙ (draw_within m now c₁ b.rng).same
 
       pub search_goes_on : SearchLeft (select m now (Some place) c₂ b₁.rng) whole (lost + gone) first c₂ b₁ before
       search_goes_on =
           let step = seek_some m now c₁ b.rng found.0 in
           let k = missed in
-          let words : b₁.rng ≡ d.words = ap (λ (x : Balance D R). x.rng) drawn-words in
+          let words : b₁.rng ≡ d.words = ap (λ (x : Balance D R). x.rng) drawn_words in
           let same : select m now (Some place) c₂ b₁.rng ≡ try m now (seek_all m now) d.place d.cache d.words =
           ap (λ (i : ℕ). try m now (seek_all m now) i c₂ b₁.rng) found.1
-          ∙ ap (λ (x : Cache K S). try m now (seek_all m now) d.place x b₁.rng) drawn-cache
+          ∙ ap (λ (x : Cache K S). try m now (seek_all m now) d.place x b₁.rng) drawn_cache
           ∙ ap (λ (r : R). try m now (seek_all m now) d.place d.cache r) words in
           let count = left.count in
           let more = k.count in
           let next : (seek_all m now c₁ b.rng).lost ≡ 0 + (try m now (seek_all m now) d.place d.cache d.words).lost = ap (λ (s : Sought K S E R). s.lost) step in
           let these : (select m now (Some place) c₂ b₁.rng).lost ≡ (try m now (seek_all m now) d.place d.cache d.words).lost = ap (λ (s : Sought K S E R). s.lost) same in
           let r = same_length in
-          let p : length c₂.pending ≡ length c₁.pending = ap (λ (x : Cache K S). length x.pending) drawn-cache ∙ draw_pending m now c₁ b.rng in
+          let p : length c₂.pending ≡ length c₁.pending = ap (λ (x : Cache K S). length x.pending) drawn_cache ∙ draw_pending m now c₁ b.rng in
           let h = held_after in
           let f = left.fits in
           record {
@@ -147,7 +147,7 @@ module _ {K S Q A E W D F R : Type 0} (m : Meanings K S Q A E W D F R) (now : �
           let below = (draw_within m now c₁ b.rng).below found.0 in
           let at_place = found.1 in
           let sure : unsure (Some place) (length c₂.ready) ≡ 0 = ap (λ (t : Bool). cond t 0 1) (lt-ltb place (length c₂.ready) (omega arith)) in
-          let h = before_check selected asked (ap (λ (x : Cache K S). length x.ready) left-by-check) in
+          let h = before_check selected asked (ap (λ (x : Cache K S). length x.ready) left_by_check) in
           omega arith
         where
           before_check : (o : Option ℕ) → Some gone ≡ lost_by (check_selected m.keys m.endpoints now c o).answer → length c₁.ready ≡ length (check_selected m.keys m.endpoints now c o).after.ready → length c₁.ready < length c.ready + unsure o (length c.ready)

@@ -62,7 +62,7 @@ module _ {K S Q A E W D F R : Type 0} (m : Meanings K S Q A E W D F R) (now tick
         draws = o.draws;
       }
 
-  module _ (b : Balancer D R) (c c' : Cache K S) (d : Docket) (h : History K S A E F) (o : Holds m b c d h) (i : ℕ) (gone : DocketRecord) (stands : at d.records i ≡ Some gone) (it-is : gone.ticket ≡ ticket) (told : Told m.keys m.endpoints now c c' gone.serial) (over : Completion) where
+  module _ (b : Balancer D R) (c c' : Cache K S) (d : Docket) (h : History K S A E F) (o : Holds m b c d h) (i : ℕ) (gone : DocketRecord) (stands : at d.records i ≡ Some gone) (it_is : gone.ticket ≡ ticket) (told : Told m.keys m.endpoints now c c' gone.serial) (over : Completion) where
     abbrev new : History K S A E F
     new = completed now ticket (Ok over) ∷ h
 
@@ -70,7 +70,7 @@ module _ {K S Q A E W D F R : Type 0} (m : Meanings K S Q A E W D F R) (now tick
     opened = each_at (Open h d.next) d.records i gone o.records stands
 
     not_yet : is_completed h ticket ≡ false
-    not_yet = ap (is_completed h) (sym it-is) ∙ opened.out
+    not_yet = ap (is_completed h) (sym it_is) ∙ opened.out
 
     -- the completed ones are those of before, and this ticket
     counted : (xs : List ℕ) → how_many (is_completed new) xs ≡ how_many (is_completed h) xs + total (is_ticket ticket) xs
@@ -91,10 +91,10 @@ module _ {K S Q A E W D F R : Type 0} (m : Meanings K S Q A E W D F R) (now tick
             add false = omega arith
 
     one_here : total (is_ticket ticket) (sent_to gone.serial h) ≡ 1
-    one_here = ap (λ (t : ℕ). total (is_ticket t) (sent_to gone.serial h)) (sym it-is) ∙ opened.sent
+    one_here = ap (λ (t : ℕ). total (is_ticket t) (sent_to gone.serial h)) (sym it_is) ∙ opened.sent
 
     none_there : (x : ℕ) → (x ≡ gone.serial → ⊥) → total (is_ticket ticket) (sent_to x h) ≡ 0
-    none_there x ne = ap (λ (t : ℕ). total (is_ticket t) (sent_to x h)) (sym it-is) ∙ opened.nowhere_else x ne
+    none_there x ne = ap (λ (t : ℕ). total (is_ticket t) (sent_to x h)) (sym it_is) ∙ opened.nowhere_else x ne
 
     own_after : (n : ℕ) → 1 ≤ sum_held m.keys m.endpoints (is_pair gone.serial n) c' → CountRight m.endpoints.count new gone.serial n
     own_after n one =
@@ -144,7 +144,7 @@ module _ {K S Q A E W D F R : Type 0} (m : Meanings K S Q A E W D F R) (now tick
       unsent = λ x above. let n = told.next in o.unsent x (omega arith);
       records =
           let a = total_swap (of_record ticket) d.records i gone stands in
-          let one : of_record ticket gone ≡ 1 = ap one_if (eq-eqb gone.ticket ticket it-is) in
+          let one : of_record ticket gone ≡ 1 = ap one_if (eq-eqb gone.ticket ticket it_is) in
           let l = o.tickets ticket in
           records_after (swap_remove d.records i) (omega arith) (each_swap (Open h d.next) d.records i o.records);
       tickets = λ t. let a = total_swap_le (of_record t) d.records i in let l = o.tickets t in omega arith;
@@ -180,8 +180,8 @@ module _ {K S Q A E W D F R : Type 0} (m : Meanings K S Q A E W D F R) (now tick
       (λ i found. some_case Goal (at d.records i) _ _
       (λ _. refused_holds b c d h UnknownTicket o)
       (λ gone here.
-      let it-is : gone.ticket ≡ ticket = eqb-true gone.ticket ticket (place_test (λ s. eqb s.ticket ticket) d.records i gone found here) in
-      done_holds b c _ d h o i gone here it-is (finish_told m.keys m.endpoints now c gone.serial gone.sent) _))
+      let it_is : gone.ticket ≡ ticket = eqb-true gone.ticket ticket (place_test (λ s. eqb s.ticket ticket) d.records i gone found here) in
+      done_holds b c _ d h o i gone here it_is (finish_told m.keys m.endpoints now c gone.serial gone.sent) _))
     where
       Goal : CompleteOutcome K S → Type 0
       Goal k = Holds m b k.cache k.docket (completed now ticket k.answer ∷ h)

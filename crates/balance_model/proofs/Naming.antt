@@ -78,8 +78,8 @@ module _ {K S Q A E W D F R : Type 0} (m : Meanings K S Q A E W D F R) (now : �
   try_right more ih i c r =
       let k = check m.keys m.endpoints now c i in
       check_case Right k.answer _ _ _
-      (λ yes-it-is. record {
-        found = λ j e. subst (λ (x : ℕ). Grants m.endpoints now k.after.ready k.asked x) (place_is i j e) (check_grants m.keys m.endpoints now c i yes-it-is);
+      (λ yes_it_is. record {
+        found = λ j e. subst (λ (x : ℕ). Grants m.endpoints now k.after.ready k.asked x) (place_is i j e) (check_grants m.keys m.endpoints now c i yes_it_is);
         draws = tt;
       })
       (λ _. after_right k.asked [] 0 (more k.after r) tt (ih k.after r))

@@ -37,7 +37,7 @@ module _ {K S Q A E W D F R : Type 0} (m : Meanings K S Q A E W D F R) (now : �
   abbrev Found : PollOutcome K S E D F R → Type 0
   Found p = (i : ℕ) × (p.balancer.selected ≡ Some i) × (g : Grants m.endpoints now p.cache.ready p.log.asked i) × (named p.answer ≡ Some g.entry.serial)
 
-  record Poll-right (c : Cache K S) (p : PollOutcome K S E D F R) : Type 0 where
+  record PollRight (c : Cache K S) (p : PollOutcome K S E D F R) : Type 0 where
     fed : FedRight m.keys m.endpoints c (as_fed p)
     draws : Each (DrawFair m.endpoints m.weights now) p.log.draws
     found : p.balancer.fresh ≡ true → Found p
@@ -68,7 +68,7 @@ module _ {K S Q A E W D F R : Type 0} (m : Meanings K S Q A E W D F R) (now : �
   not_ended : {P : Type 0} {x : PollError K F} {y : Polled} → ◌≡◌ {A = Result Polled (PollError K F)} (Err x) (Ok y) → P
   not_ended {P} {x} {y} e = let z : ◌≡◌ {A = ℕ} 0 1 = cc in absurd (omega arith)
 
-  poll_right : (b : Balancer D R) (c : Cache K S) → Poll-right c (poll m now b c)
+  poll_right : (b : Balancer D R) (c : Cache K S) → PollRight c (poll m now b c)
   unfolding poll
   poll_right b c =
       let fed = read_feed m now b.budget b.feed b.selected c in
@@ -78,14 +78,14 @@ module _ {K S Q A E W D F R : Type 0} (m : Meanings K S Q A E W D F R) (now : �
       let r = read_feed_right m now b.budget b.feed b.selected c in
       let one = settle_keeps m now fuel fed.cache in
       let two = keeps_trans m.keys m.endpoints fed.cache settled.cache sought.cache one (select_keeps m now fed.selected settled.cache b.words) in
-      let Goal : PollOutcome K S E D F R → Type 0 = Poll-right c in
+      let Goal : PollOutcome K S E D F R → Type 0 = PollRight c in
       some_case Goal fed.fault _ _
       (λ _. some_case Goal settled.stuck _ _
       (λ _. ended_right b c fed settled sought (then_keeps c fed _ r two refl) (select_right m now fed.selected settled.cache b.words) (select_nobody m now fed.selected settled.cache b.words))
       (λ k _. record { fed = then_keeps c fed _ r one refl; draws = tt; found = λ e. false_true e; nobody = λ _. refl; empty = λ _ e. not_ended e }))
       (λ x e. record { fed = then_keeps c fed _ r (keeps_refl m.keys m.endpoints fed.cache) refl; draws = tt; found = λ e. false_true e; nobody = λ _. refl; empty = λ _ e. not_ended e })
     where
-      ended_right : (b : Balancer D R) (c : Cache K S) (fed : Fed K S D F) (settled : Settled K S E) (sought : Sought K S E R) → FedRight m.keys m.endpoints c (as_fed (ended m now b fed settled sought)) → SoughtRight m.endpoints m.weights now sought → NobodyLeft m now sought → Poll-right c (ended m now b fed settled sought)
+      ended_right : (b : Balancer D R) (c : Cache K S) (fed : Fed K S D F) (settled : Settled K S E) (sought : Sought K S E R) → FedRight m.keys m.endpoints c (as_fed (ended m now b fed settled sought)) → SoughtRight m.endpoints m.weights now sought → NobodyLeft m now sought → PollRight c (ended m now b fed settled sought)
       ended_right b c fed settled sought r right none = record {
         fed = r;
         draws = right.draws;
@@ -125,7 +125,7 @@ module _ {K S Q A E W D F R : Type 0} (m : Meanings K S Q A E W D F R) (now : �
   pub poll_lawful : (b : Balancer D R) (c : Cache K S) → PollLawful m.endpoints m.weights now (poll m now b c)
   poll_lawful b c = go (poll m now b c) (poll_right b c)
     where
-      go : (p : PollOutcome K S E D F R) → Poll-right c p → PollLawful m.endpoints m.weights now p
+      go : (p : PollOutcome K S E D F R) → PollRight c p → PollLawful m.endpoints m.weights now p
       go p r = record {
         granted = λ serial e. let f = found serial e in let same = is_named serial e f in f.2.last ∙ ap (λ (s : ℕ). Some (said_ready s)) same;
         selected = λ serial e.
@@ -152,7 +152,7 @@ module _ {K S Q A E W D F R : Type 0} (m : Meanings K S Q A E W D F R) (now : �
       Holds m (poll m now b c).balancer (poll m now b c).cache d (polled now (poll m now b c).log (poll m now b c).answer ∷ h)
   poll_holds b c d h o = go (poll m now b c) (poll_right b c)
     where
-      go : (p : PollOutcome K S E D F R) → Poll-right c p → Holds m p.balancer p.cache d (polled now p.log p.answer ∷ h)
+      go : (p : PollOutcome K S E D F R) → PollRight c p → Holds m p.balancer p.cache d (polled now p.log p.answer ∷ h)
       go p r =
           let fed = r.fed in
           let new : History K S A E F = polled now p.log p.answer ∷ h in

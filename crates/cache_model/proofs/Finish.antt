@@ -165,6 +165,6 @@ module _ {K S Q A E W : Type 0} (keys : Sameness K) (ends : Endpoints S Q A E W)
   finish_told c serial sent =
       cond_case (λ (o : Outcome Bool (Cache K S)). Told c o.after serial) (is_some (place_of (has_serial serial) c.ready)) _ _
       (λ has. told_ready c serial sent has)
-      (λ not-ready. cond_case (λ (o : Outcome Bool (Cache K S)). Told c o.after serial) (is_some (place_of (has_serial serial) c.pending)) _ _
-      (λ _. told_pending c serial sent not-ready)
-      (λ not-pending. told_nobody c serial not-ready not-pending))
+      (λ not_ready. cond_case (λ (o : Outcome Bool (Cache K S)). Told c o.after serial) (is_some (place_of (has_serial serial) c.pending)) _ _
+      (λ _. told_pending c serial sent not_ready)
+      (λ not_pending. told_nobody c serial not_ready not_pending))

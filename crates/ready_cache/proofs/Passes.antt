@@ -200,14 +200,14 @@ module _ {K S Q A E W : Type 0} (keys : Sameness K) (ends : Endpoints S Q A E W)
   pub ends_as : (xs ys xs' ys' : List (Entry K S)) (p q : Places) (r r' : Result (Unit {0}) (PendingError K E)) → r ≡ r' → Ends keys ends now capacity end xs ys xs' ys' p q r → Ends keys ends now capacity end xs ys xs' ys' p q r'
   ends_as xs ys xs' ys' p q r r' h d = subst (λ z. Ends keys ends now capacity end xs ys xs' ys' p q z) h d
 
-  module _ (xs ys xs' ys' : List (Entry K S)) (p₀ p : Places) (now-at : Went keys ends now capacity end xs ys xs' ys' p₀ p) (same : left_of keys ends now capacity end xs' ys' p ≡ left_of keys ends now capacity end xs ys p₀) (long : end ≤ length ys) where
+  module _ (xs ys xs' ys' : List (Entry K S)) (p₀ p : Places) (now_at : Went keys ends now capacity end xs ys xs' ys' p₀ p) (same : left_of keys ends now capacity end xs' ys' p ≡ left_of keys ends now capacity end xs ys p₀) (long : end ≤ length ys) where
     -- it came to the end
     pub at_end : end ≤ p.read → Ends keys ends now capacity end xs ys xs' ys' p₀ p (Ok tt)
     at_end done =
-        let len : length (take end ys') ≡ end = length-take-le end ys' (omega (arith, now-at.pending_long)) in
+        let len : length (take end ys') ≡ end = length-take-le end ys' (omega (arith, now_at.pending_long)) in
         let none : drop p.read (take end ys') ≡ [] = drop_all p.read (take end ys') (omega arith) in
         record {
-          went = now-at;
+          went = now_at;
           done = λ _. done;
           same =
               sym same
@@ -218,20 +218,20 @@ module _ {K S Q A E W : Type 0} (keys : Sameness K) (ends : Endpoints S Q A E W)
     module _ (more : p.read < end) (zs : List (Entry K S)) (q : Places) (as_long : length zs ≡ length ys') where
       goes : (r : Result (Option (Entry K S)) (Failure K E)) → Turned ends now ys' p r zs q → goes_on xs' zs q r ≡ left_of keys ends now capacity end xs ys p₀
       goes r d =
-          let l : end ≤ length ys' = omega (arith, now-at.pending_long) in
-          sym (turn_left xs' ys' zs p q r now-at.behind more l d) ∙ same
+          let l : end ≤ length ys' = omega (arith, now_at.pending_long) in
+          sym (turn_left xs' ys' zs p q r now_at.behind more l d) ∙ same
 
       -- the next one left or stayed
       pub step_none : Turned ends now ys' p (Ok None) zs q → Went keys ends now capacity end xs ys xs' zs p₀ q × (left_of keys ends now capacity end xs' zs q ≡ left_of keys ends now capacity end xs ys p₀)
       step_none d =
           let at = placed ends now ys' zs p q (Ok None) d in (
             record {
-              behind = omega (arith, now-at.behind, at.1, at.2);
+              behind = omega (arith, now_at.behind, at.1, at.2);
               within = omega (arith, at.1);
-              fits = omega (arith, now-at.fits, at.0);
-              roomy = omega (arith, now-at.roomy, at.0, at.1, at.2);
-              ready_long = now-at.ready_long;
-              pending_long = as_long ∙ now-at.pending_long;
+              fits = omega (arith, now_at.fits, at.0);
+              roomy = omega (arith, now_at.roomy, at.0, at.1, at.2);
+              ready_long = now_at.ready_long;
+              pending_long = as_long ∙ now_at.pending_long;
             },
             goes (Ok None) d,
           )
@@ -245,12 +245,12 @@ module _ {K S Q A E W : Type 0} (keys : Sameness K) (ends : Endpoints S Q A E W)
           let c : q.write ≡ p.write = ap (λ z. z.write) at in
           record {
             went = record {
-              behind = omega (arith, now-at.behind);
+              behind = omega (arith, now_at.behind);
               within = omega arith;
-              fits = omega (arith, now-at.fits);
-              roomy = omega (arith, now-at.roomy);
-              ready_long = now-at.ready_long;
-              pending_long = as_long ∙ now-at.pending_long;
+              fits = omega (arith, now_at.fits);
+              roomy = omega (arith, now_at.roomy);
+              ready_long = now_at.ready_long;
+              pending_long = as_long ∙ now_at.pending_long;
             };
             done = λ h. let z : ◌≡◌ {A = ℕ} 0 1 = cc in absurd (omega arith);
             same = sym (goes (Err f) d);
@@ -266,17 +266,17 @@ module _ {K S Q A E W : Type 0} (keys : Sameness K) (ends : Endpoints S Q A E W)
             let a : q.ready ≡ p.ready = ap (λ z. z.ready) same_places in
             let b : q.read ≡ p.read = ap (λ z. z.read) same_places in
             let c : q.write ≡ p.write = ap (λ z. z.write) same_places in
-            let yes-place : has_place keys capacity (take q.ready xs') e.key ≡ true = t.place in (
+            let yes_place : has_place keys capacity (take q.ready xs') e.key ≡ true = t.place in (
               record {
-                behind = omega (arith, now-at.behind);
+                behind = omega (arith, now_at.behind);
                 within = omega arith;
                 fits = t.within;
-                roomy = omega (arith, now-at.roomy, t.most);
-                ready_long = as_wide ∙ now-at.ready_long;
-                pending_long = as_long ∙ now-at.pending_long;
+                roomy = omega (arith, now_at.roomy, t.most);
+                ready_long = as_wide ∙ now_at.ready_long;
+                pending_long = as_long ∙ now_at.pending_long;
               },
               ap (λ z. ended (pass keys ends now capacity z (take q.write zs) (drop (q.read + 1) (take end zs)))) t.list
-                  ∙ sym (cond-true (has_place keys capacity (take q.ready xs') e.key) _ _ yes-place)
+                  ∙ sym (cond-true (has_place keys capacity (take q.ready xs') e.key) _ _ yes_place)
                   ∙ goes (Ok (Some e)) d,
             )
 
@@ -288,12 +288,12 @@ module _ {K S Q A E W : Type 0} (keys : Sameness K) (ends : Endpoints S Q A E W)
             let c : q.write ≡ p.write = ap (λ z. z.write) same_places in
             record {
               went = record {
-                behind = omega (arith, now-at.behind);
+                behind = omega (arith, now_at.behind);
                 within = omega arith;
-                fits = omega (arith, now-at.fits);
-                roomy = omega (arith, now-at.roomy);
-                ready_long = as_wide ∙ now-at.ready_long;
-                pending_long = as_long ∙ now-at.pending_long;
+                fits = omega (arith, now_at.fits);
+                roomy = omega (arith, now_at.roomy);
+                ready_long = as_wide ∙ now_at.ready_long;
+                pending_long = as_long ∙ now_at.pending_long;
               };
               done = λ h. let z : ◌≡◌ {A = ℕ} 0 1 = cc in absurd (omega arith);
               same =

@@ -54,12 +54,12 @@ module _ {K S Q A E W : Type 0} (keys : Sameness K) (ends : Endpoints S Q A E W)
       (fits : r + n ≤ capacity_of (length xs) (length ys))
       (begins : from ≡ min resume n)
       (bound : capacity ≡ capacity_of (length xs) (length ys))
-      (ended-there : Ends keys ends now capacity n xs ys xs' ys' (start r from) q res)
+      (ended_there : Ends keys ends now capacity n xs ys xs' ys' (start r from) q res)
       (as_long : length zs ≡ length ys')
       (closed : take left zs ≡ take q.write ys' ++ drop q.read (take n ys'))
       (count : left ≡ q.write + (n - q.read)) where
     over : Ends keys ends now (capacity_of (length xs) (length ys)) n xs ys xs' ys' (start r from) q res
-    over = subst (λ z. Ends keys ends now z n xs ys xs' ys' (start r from) q res) bound ended-there
+    over = subst (λ z. Ends keys ends now z n xs ys xs' ys' (start r from) q res) bound ended_there
 
     abbrev close : Ended K S E
     close = record { ready = take q.ready xs'; kept = take q.write ys'; rest = drop q.read (take n ys'); fault = fault_of res }

@@ -9,7 +9,7 @@ use Rattle.runs.proofs.run.Goals as goal
 
 pub returns : goal.returns
 returns g c =
-    let m = kinds g.Key.Key.sameness g.Service.Endpoint.means g.Metric.Weight.order g.D.Discover.feeds g.R.Rng.source in
+    let m = kinds g.D.Key.Key.sameness g.D.Service.Endpoint.means g.D.Service.Metric.Weight.order g.D.Discover.feeds g.R.Rng.source in
     let a = c.args in
     let made = making (length a.ready.now) (length a.pending.now) (length a.records.now) a.feed a.words a.budget a.first_serial a.first_ticket in
     let p = promised m made a.picks.now in
@@ -27,7 +27,7 @@ returns g c =
 
 pub returns-in_err-answers : goal.returns-in_err-answers
 returns-in_err-answers g c =
-    let m = kinds g.Key.Key.sameness g.Service.Endpoint.means g.Metric.Weight.order g.D.Discover.feeds g.R.Rng.source in
+    let m = kinds g.D.Key.Key.sameness g.D.Service.Endpoint.means g.D.Service.Metric.Weight.order g.D.Discover.feeds g.R.Rng.source in
     let a = c.args in
     let made = making (length a.ready.now) (length a.pending.now) (length a.records.now) a.feed a.words a.budget a.first_serial a.first_ticket in
     let p = promised m made a.picks.now in

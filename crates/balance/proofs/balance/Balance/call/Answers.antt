@@ -8,7 +8,7 @@ use Rattle.balance.proofs.balance.Balance.call.Goals as goal
 
 pub returns-in_err-response : goal.returns-in_err-response
 returns-in_err-response g c =
-    let m = kinds g.Key.Key.sameness g.Service.Endpoint.means g.Metric.Weight.order g.D.Discover.feeds g.R.Rng.source in
+    let m = kinds g.D.Key.Key.sameness g.D.Service.Endpoint.means g.D.Service.Metric.Weight.order g.D.Discover.feeds g.R.Rng.source in
     let a = c.in_err-response.ensures in
     let p = err_from_is_err_and c.from_residual-in_err-response.result c.from_residual-in_err-response.ensures.1 in
     let all = cache_refuses m c.args.at c.args.self.now (cache_view c.args.cache.now) (docket_view c.args.docket.now) c.args.request (cache_view c.call_ready_index.new.self) c.in-Some.place c.in-Some-get_ready_index.entry _ c.if-not-self.false (admitted _ c.in_ok-admits.ensures) c.in-Some.is (sym c.in-Some-get_ready_index.ensures) (sym a.answer) a.after in

@@ -6,7 +6,7 @@ use Rattle.balance.proofs.balance.Balance.choose.Given as goal
 
 abbrev pub invariant-loop-gone : goal.invariant-loop-gone
 invariant-loop-gone g l =
-    let m = kinds g.Key.Key.sameness g.Service.Endpoint.means g.Metric.Weight.order g.D.Discover.feeds g.R.Rng.source in
+    let m = kinds g.D.Key.Key.sameness g.D.Service.Endpoint.means g.D.Service.Metric.Weight.order g.D.Discover.feeds g.R.Rng.source in
     SearchLeft
     (select m l.at l.selected (cache_view l.cache) l.self.rng)
     (select m l.at l.initial.selected (cache_view l.initial.cache) l.initial.self.rng)

@@ -8,7 +8,7 @@ use Rattle.balance.proofs.balance.Balance.poll_ready.Goals as goal
 
 pub returns-in_err-lost : goal.returns-in_err-lost
 returns-in_err-lost g c =
-    let m = kinds g.Key.Key.sameness g.Service.Endpoint.means g.Metric.Weight.order g.D.Discover.feeds g.R.Rng.source in
+    let m = kinds g.D.Key.Key.sameness g.D.Service.Endpoint.means g.D.Service.Metric.Weight.order g.D.Discover.feeds g.R.Rng.source in
     let f = c.in_ok-read_feed.ensures in
     let s = c.in_err-lost.ensures in
     let p = err_from_is_err_and c.from_residual-in_err-lost.result c.from_residual-in_err-lost.ensures.1 in
@@ -17,7 +17,7 @@ returns-in_err-lost g c =
 
 pub returns : goal.returns
 returns g c =
-    let m = kinds g.Key.Key.sameness g.Service.Endpoint.means g.Metric.Weight.order g.D.Discover.feeds g.R.Rng.source in
+    let m = kinds g.D.Key.Key.sameness g.D.Service.Endpoint.means g.D.Service.Metric.Weight.order g.D.Discover.feeds g.R.Rng.source in
     let f = c.in_ok-read_feed.ensures in
     let s = c.in_ok-lost.ensures in
     let all = poll_ends m c.args.at c.args.self.now _ c.read_feed.new.self (cache_view c.args.cache.now) (cache_view c.read_feed.new.cache) (cache_view c.settle.new.cache) refl f _ c.choose-place.result.0 c.choose-place.result.1 c.choose-place.new.self (cache_view c.choose-place.new.cache) c.worker_at-worker.result c.is_some-self.result s c.choose-place.ensures c.worker_at-worker.ensures c.is_some-self.ensures in
@@ -25,7 +25,7 @@ returns g c =
 
 pub returns-in_err-read_feed : goal.returns-in_err-read_feed
 returns-in_err-read_feed g c =
-    let m = kinds g.Key.Key.sameness g.Service.Endpoint.means g.Metric.Weight.order g.D.Discover.feeds g.R.Rng.source in
+    let m = kinds g.D.Key.Key.sameness g.D.Service.Endpoint.means g.D.Service.Metric.Weight.order g.D.Discover.feeds g.R.Rng.source in
     let p = err_from_is_err_and c.from_residual.result c.from_residual.ensures.1 in
     let all = poll_faults m c.args.at c.args.self.now _ c.read_feed.new.self (cache_view c.args.cache.now) (cache_view c.read_feed.new.cache) _ refl c.in_err-read_feed.ensures in
     record { answer = p.1 ∙ ap Err p.2 ∙ all.0; after = all.1; cache = all.2; lawful = poll_lawful m c.args.at (view c.args.self.now) (cache_view c.args.cache.now) }

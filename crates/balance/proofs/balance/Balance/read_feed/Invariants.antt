@@ -6,7 +6,7 @@ use Rattle.balance.proofs.balance.Balance.read_feed.Given as goal
 
 abbrev pub invariant-loop-turn : goal.invariant-loop-turn
 invariant-loop-turn g l =
-    let m = kinds g.Key.Key.sameness g.Service.Endpoint.means g.Metric.Weight.order g.D.Discover.feeds g.R.Rng.source in
+    let m = kinds g.D.Key.Key.sameness g.D.Service.Endpoint.means g.D.Service.Metric.Weight.order g.D.Discover.feeds g.R.Rng.source in
     FeedLeft
     (read_feed m l.at (l.budget - l._turn) l.self.discover l.self.selected (cache_view l.cache))
     (read_feed m l.at l.budget l.initial.self.discover l.initial.self.selected (cache_view l.initial.cache))
