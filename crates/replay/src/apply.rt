@@ -14,8 +14,7 @@ use docket::docket::Docket;
 use keys::name::Name;
 use ready_cache::cache::ReadyCache;
 use rng::Rng;
-use std::fmt;
-use std::fmt::Write;
+use std::alloc::AllocError;
 
 // The serial of an entry, and 0 where there is none.
 fn serial_of<S: Copy>(entry: Option<Entry<Name, S>>) -> u64 {
@@ -60,7 +59,7 @@ fn apply_to_cache<S: Worker>(
     cache: &mut ReadyCache<'_, Name, S>,
     docket: &mut Docket<'_>,
     out: &mut String,
-) -> fmt::Result {
+) -> Result<(), AllocError> {
     match pick {
         Pick::Push { key, .. } => match cache.push(key, worker) {
             Ok(serial) => write!(out, "pushed {serial}"),
@@ -96,7 +95,7 @@ fn apply<D, R>(
     cache: &mut ReadyCache<'_, Name, D::Service>,
     docket: &mut Docket<'_>,
     out: &mut String,
-) -> fmt::Result
+) -> Result<(), AllocError>
 where
     D: Discover<Key = Name, Error = u32>,
     R: Rng,
@@ -123,7 +122,7 @@ pub fn apply_all<D, R>(
     pending: &mut [Entry<Name, D::Service>],
     records: &mut [DocketRecord],
     out: &mut String,
-) -> fmt::Result
+) -> Result<(), AllocError>
 where
     D: Discover<Key = Name, Error = u32> + Drop,
     R: Rng + Drop,

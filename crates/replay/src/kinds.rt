@@ -3,9 +3,8 @@ use decay::Decay;
 use load::pending_requests::PendingRequests;
 use peak_ewma::peak_ewma::PeakEwma;
 use service::{Endpoint, Service};
+use std::alloc::AllocError;
 use std::convert::Infallible;
-use std::fmt;
-use std::fmt::Write;
 use workers::paced::Paced;
 use workers::patterned::Patterned;
 
@@ -66,7 +65,7 @@ pub trait Worker: Endpoint {
     fn place(error: Self::Error) -> u8;
 
     // Writes the count, and the estimate if there is one.
-    fn show(&self, out: &mut String) -> fmt::Result;
+    fn show(&self, out: &mut String) -> Result<(), AllocError>;
 }
 
 impl<B: Bare> Worker for PendingRequests<B> {
@@ -82,7 +81,7 @@ impl<B: Bare> Worker for PendingRequests<B> {
         B::place(error)
     }
 
-    fn show(&self, out: &mut String) -> fmt::Result {
+    fn show(&self, out: &mut String) -> Result<(), AllocError> {
         let count = self.count();
         write!(out, "{count}")
     }
@@ -101,7 +100,7 @@ impl<B: Bare, D: Decay> Worker for PeakEwma<B, D> {
         B::place(error)
     }
 
-    fn show(&self, out: &mut String) -> fmt::Result {
+    fn show(&self, out: &mut String) -> Result<(), AllocError> {
         let count = self.count();
         let estimate = self.estimate();
         let bits = estimate.to_bits();

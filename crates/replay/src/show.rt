@@ -5,11 +5,13 @@ use cache_model::entry::Entry;
 use cache_model::error::{Failed, PendingError, PushError};
 use keys::name::Name;
 use service::poll::Poll;
-use std::fmt;
-use std::fmt::Write;
+use std::alloc::AllocError;
 use std::slice::Iter;
 
-pub fn show_poll(answer: Result<Polled, PollError<Name, u32>>, out: &mut String) -> fmt::Result {
+pub fn show_poll(
+    answer: Result<Polled, PollError<Name, u32>>,
+    out: &mut String,
+) -> Result<(), AllocError> {
     match answer {
         Ok(polled) => {
             let lost = polled.lost;
@@ -24,7 +26,7 @@ pub fn show_poll(answer: Result<Polled, PollError<Name, u32>>, out: &mut String)
     }
 }
 
-pub fn show_unpushed(error: PushError<Name>, out: &mut String) -> fmt::Result {
+pub fn show_unpushed(error: PushError<Name>, out: &mut String) -> Result<(), AllocError> {
     let key = error.key;
     let number = error.number();
     write!(out, "fault {number} {key}")
@@ -33,7 +35,7 @@ pub fn show_unpushed(error: PushError<Name>, out: &mut String) -> fmt::Result {
 pub fn show_call<S: Worker>(
     answer: Result<(u64, S::Response), CallError>,
     out: &mut String,
-) -> fmt::Result {
+) -> Result<(), AllocError> {
     match answer {
         Ok((ticket, response)) => {
             let response = S::response(response);
@@ -46,7 +48,10 @@ pub fn show_call<S: Worker>(
     }
 }
 
-pub fn show_completion(answer: Result<Completion, CompleteError>, out: &mut String) -> fmt::Result {
+pub fn show_completion(
+    answer: Result<Completion, CompleteError>,
+    out: &mut String,
+) -> Result<(), AllocError> {
     match answer {
         Ok(Completion::Held) => write!(out, "held"),
         Ok(Completion::Gone) => write!(out, "gone"),
@@ -57,7 +62,10 @@ pub fn show_completion(answer: Result<Completion, CompleteError>, out: &mut Stri
     }
 }
 
-pub fn show_failed<S: Worker>(failed: Failed<Name, S::Error>, out: &mut String) -> fmt::Result {
+pub fn show_failed<S: Worker>(
+    failed: Failed<Name, S::Error>,
+    out: &mut String,
+) -> Result<(), AllocError> {
     let key = failed.key;
     let place = S::place(failed.error);
     write!(out, "fault 11 {key} {place}")
@@ -67,7 +75,7 @@ pub fn show_pass<S: Worker>(
     answer: Result<Poll<()>, PendingError<Name, S::Error>>,
     resume: usize,
     out: &mut String,
-) -> fmt::Result {
+) -> Result<(), AllocError> {
     match answer {
         Ok(Poll::Ready(())) => write!(out, "ready")?,
         Ok(Poll::Pending) => write!(out, "pending")?,
@@ -80,7 +88,7 @@ pub fn show_pass<S: Worker>(
 pub fn show_check<S: Worker>(
     answer: Result<bool, Failed<Name, S::Error>>,
     out: &mut String,
-) -> fmt::Result {
+) -> Result<(), AllocError> {
     match answer {
         Ok(ready) => write!(out, "{ready}"),
         Err(failed) => show_failed::<S>(failed, out),
@@ -88,7 +96,10 @@ pub fn show_check<S: Worker>(
 }
 
 // Writes the entries of a list: key, serial, mark, count and estimate.
-pub fn show_list<S: Worker>(entries: Iter<'_, Entry<Name, S>>, out: &mut String) -> fmt::Result {
+pub fn show_list<S: Worker>(
+    entries: Iter<'_, Entry<Name, S>>,
+    out: &mut String,
+) -> Result<(), AllocError> {
     write!(out, " |")?;
     for entry in entries {
         let key = entry.key;
