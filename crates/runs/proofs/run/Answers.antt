@@ -14,7 +14,7 @@ returns g c =
     let made = making (length a.ready.now) (length a.pending.now) (length a.records.now) a.feed a.words a.budget a.first_serial a.first_ticket in
     let p = promised m made a.picks.now in
     record {
-      answers = made_map c.closing.result _ _ (λ x k. ran_as m made a.picks.now x (vec_items c.in_ok-answers.answers) c.from_rng-balance.result c.apply_all.new.balance (cache_view c.new-cache.result) (cache_view c.apply_all.new.cache) (docket_view c.new_docket.result) (docket_view c.apply_all.new.docket) c.from_rng-balance.ensures c.new-cache.ensures.made c.new_docket.ensures c.in_ok-answers.ensures k) c.closing.ensures;
+      answers = made_map c.closing.result _ _ (λ x k. ran_as m made a.picks.now x (vec_items c.in_ok-answers.answers) c.from_rng-balance.result c.apply_all.new.balance (cache_view c.new-cache.result) (cache_view c.apply_all.new.cache) (docket_view c.new-docket.result) (docket_view c.apply_all.new.docket) c.from_rng-balance.ensures c.new-cache.ensures.made c.new-docket.ensures c.in_ok-answers.ensures k) c.closing.ensures;
       sent = p.sent;
       six = p.six;
       never = p.never;
