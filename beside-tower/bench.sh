@@ -8,8 +8,8 @@ src=${1:?the path of the folder src/ of the sources of tower 0.5.3}
 build=$root/target/beside-tower
 
 "$here/build.sh" "$src" "$build"
-(cd "$root" && rt staticlib cycles)
-kit=$(dirname "$(dirname "$(rt doc)")")
+(cd "$root/crates/cycles" && rt lib)
+kit=$(dirname "$(rt doc)")
 cd "$build/cargo"
-STATICLIB=$root/target/staticlib C_CODE=$kit/lib CARGO_TARGET_DIR=$build/out cargo build --release --offline --quiet -p bench
+STATICLIB=$root/crates/cycles/out C_CODE=$kit/c CARGO_TARGET_DIR=$build/out cargo build --release --offline --quiet -p bench
 "$build/out/release/bench"

@@ -11,10 +11,10 @@ seed=${3:-1}
 build=$root/target/beside-tower
 
 "$here/build.sh" "$src" "$build"
-(cd "$root" && rt check replay > /dev/null)
+(cd "$root/crates/replay" && rt run < /dev/null > /dev/null)
 "$build/out/release/generate" "$seed" "$runs" > "$build/runs"
 "$build/out/release/reference" "$build/runs" "$build/compared" "$build/expected"
-"$root/target/bin/replay" < "$build/compared" > "$build/answered"
+"$root/crates/replay/out/replay" < "$build/compared" > "$build/answered"
 if cmp "$build/expected" "$build/answered"; then
     echo same
 else

@@ -3,11 +3,10 @@ use Rattle.std.proofs.Common.{◌≡◌, ℕ, ◌+◌, Bool, true, false, [], is
 use Rattle.model.specs.Options.{by_some}
 use Rattle.service.specs.declared.poll.Poll.{Poll}
 use Rattle.cache_model.specs.Cache.{Cache}
-use Rattle.balance_model.specs.declared.answer.Polled.{Polled}
 use Rattle.balance_model.specs.declared.answer.PollError.{PollError}
 use Rattle.balance_model.specs.declared.answer.PollError.TheVariants.{NoPlace}
 use Rattle.balance_model.specs.Meanings.{Meanings}
-use Rattle.balance_model.specs.Balance.{Balancer, Fed, read_feed, Settled, settle_all, Sought, select, serial_at, PollOutcome, ended, faulted, poll}
+use Rattle.balance_model.specs.Balance.{Fed, read_feed, Settled, settle_all, Sought, select, serial_at, PollOutcome, ended, faulted, poll}
 use Rattle.balance.specs.declared.balance.Balance.{Balance}
 use Rattle.balance.specs.View.{view, FedAs, SettledAs, SoughtAs}
 

@@ -1,5 +1,5 @@
 -- One turn of reading the feed.
-use Rattle.std.proofs.Common.{◌≡◌, ℕ, suc, ◌+◌, ◌-◌, ◌<◌, Bool, true, false, cond, Some, None, Ok, Err, Option, Result, sym, refl, ap, ◌∙◌, subst, arith}
+use Rattle.std.proofs.Common.{◌≡◌, ℕ, suc, ◌+◌, ◌-◌, ◌<◌, Bool, true, false, cond, Some, None, Ok, Err, Option, Result, sym, refl, ap, ◌∙◌, arith}
 use Rattle.model.specs.Options.{by_some, by_result}
 use Rattle.cache_model.specs.Cache.{Cache}
 use Rattle.balance_model.specs.declared.answer.PollError.{PollError}

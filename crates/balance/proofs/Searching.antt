@@ -1,9 +1,8 @@
 -- One turn of the search for a ready worker, and one pass over pending.
-use Rattle.std.proofs.Common.{◌≡◌, ℕ, ◌+◌, ◌<◌, ◌≤◌, Bool, true, false, cond, eqb, ltb, ◌⊎◌, [], length, is_some, Some, None, Ok, Err, Option, Result, sym, refl, ap, ◌∙◌, subst, inl, inr, arith}
-use Rattle.std.proofs.lemmas.Bool.{eqb-true, eqb-false, lt-ltb, le-ltb, cases_lt, cases_Bool}
+use Rattle.std.proofs.Common.{◌≡◌, ℕ, ◌+◌, ◌<◌, ◌≤◌, Bool, true, false, cond, eqb, ◌⊎◌, [], length, is_some, Some, None, Ok, Err, Option, Result, sym, refl, ap, ◌∙◌, subst, inl, inr, arith}
+use Rattle.std.proofs.lemmas.Bool.{eqb-true, eqb-false, lt-ltb, le-ltb, cases_lt}
 use Rattle.model.specs.Options.{by_some}
-use Rattle.model.specs.Lists.{at}
-use Rattle.model.proofs.Cases.{no_some, cond_case}
+use Rattle.model.proofs.Cases.{no_some}
 use Rattle.model.proofs.Lists.{at_past}
 use Rattle.cache_model.specs.declared.error.Failed.{Failed}
 use Rattle.service.specs.declared.poll.Poll.{Poll}

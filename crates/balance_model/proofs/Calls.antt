@@ -10,7 +10,7 @@ use Rattle.service.specs.Meaning.{Endpoints, refused_by, ceiling}
 use Rattle.cache_model.specs.declared.entry.Entry.{Entry}
 use Rattle.cache_model.specs.declared.error.CallRefusal.{CallRefusal}
 use Rattle.cache_model.specs.Answers.{as_call, call_number}
-use Rattle.cache_model.specs.Entries.{holding, set_aside, entry}
+use Rattle.cache_model.specs.Entries.{holding, set_aside}
 use Rattle.cache_model.specs.Cache.{Cache, with_lists}
 use Rattle.cache_model.proofs.Keys.{one_if_le, of_key, aside_single}
 use Rattle.cache_model.proofs.Steps.{sum_held, of_worker, aside_sum}
@@ -18,7 +18,7 @@ use Rattle.cache_model.proofs.Serials.{is_serial, is_pair, pair_serial}
 use Rattle.balance_model.specs.declared.docket_record.DocketRecord.{DocketRecord}
 use Rattle.balance_model.specs.declared.answer.DocketRefusal.{DocketRefusal}
 use Rattle.balance_model.specs.declared.answer.CallError.{CallError}
-use Rattle.balance_model.specs.Answers.{named, call_error_number, docket_number}
+use Rattle.balance_model.specs.Answers.{call_error_number, docket_number}
 use Rattle.balance_model.specs.Meanings.{Meanings}
 use Rattle.balance_model.specs.Docket.{Docket, docket_refuses, noted}
 use Rattle.balance_model.specs.Balance.{Balancer, State, Sent, call, call_at, refused}

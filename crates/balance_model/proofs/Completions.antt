@@ -6,7 +6,6 @@ use Rattle.model.specs.Sums.{one_if}
 use Rattle.model.proofs.Cases.{some_case}
 use Rattle.model.proofs.Totals.{total, total_swap, total_swap_le}
 use Rattle.model.proofs.Places.{each_map, each_at, each_swap, place_test}
-use Rattle.cache_model.specs.Entries.{entry}
 use Rattle.cache_model.specs.Cache.{Cache, finish}
 use Rattle.cache_model.proofs.Steps.{sum_held}
 use Rattle.cache_model.proofs.Serials.{is_pair}
@@ -14,7 +13,6 @@ use Rattle.cache_model.proofs.Finish.{Told, finish_told}
 use Rattle.balance_model.specs.declared.docket_record.DocketRecord.{DocketRecord}
 use Rattle.balance_model.specs.declared.answer.CompleteError.{CompleteError}
 use Rattle.balance_model.specs.declared.answer.Completion.{Completion}
-use Rattle.balance_model.specs.Answers.{named}
 use Rattle.balance_model.specs.Meanings.{Meanings}
 use Rattle.balance_model.specs.Docket.{Docket, ticket_place, without}
 use Rattle.balance_model.specs.Balance.{Balancer, CompleteOutcome, complete, held_or_gone}

@@ -1,6 +1,5 @@
 -- Each draw is fair.
 use Rattle.model.specs.Lists.{at}
-use Rattle.model.proofs.Totals.{total}
 use Rattle.model.proofs.Places.{at_some, at_set_other}
 use Rattle.sampling.specs.Pairs.{first_place}
 use Rattle.sampling.specs.Shares.{winner, won_by, TotalBelow}

@@ -1,6 +1,5 @@
 -- What reading the feed does: workers come in under new serials, each with its count.
 use Rattle.model.specs.Options.{by_result}
-use Rattle.model.specs.Lists.{at}
 use Rattle.model.specs.Sums.{one_if}
 use Rattle.model.proofs.Cases.{result_case}
 use Rattle.model.proofs.Totals.{total, total_mono}

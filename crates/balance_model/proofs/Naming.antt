@@ -11,12 +11,11 @@ use Rattle.cache_model.proofs.Cases.{readiness_case, check_case}
 use Rattle.balance_model.specs.Meanings.{Meanings}
 use Rattle.balance_model.specs.Draw.{Draw, Drawn, draw}
 use Rattle.balance_model.specs.Balance.{Sought, after_these, try, seek, seek_all, select}
-use Rattle.balance_model.specs.History.{polled, said_ready}
+use Rattle.balance_model.specs.History.{said_ready}
 use Rattle.balance_model.specs.Promise.{DrawFair}
 use Rattle.balance_model.proofs.Fair.{fair}
 use Rattle.std.proofs.Common.{◌≡◌, ℕ, zero, suc, Bool, true, false, ltb, List, [], length, Some, Ok, Err, Option, Result, ap, ◌∙◌, subst, arith}
 use Rattle.std.proofs.lemmas.Bool.{ltb-false}
-use Rattle.service.specs.declared.readiness.Readiness.TheVariants.{Ready, Pending, Failed as Failing}
 use Rattle.cache_model.specs.declared.error.Failed.{Failed}
 
 not_yes : {K E : Type 0} → ◌≡◌ {A = Result Bool (Failed K E)} (Ok false) (Ok true) → ⊥

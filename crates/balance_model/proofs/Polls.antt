@@ -6,7 +6,6 @@ use Rattle.model.proofs.Totals.{total, total_mono}
 use Rattle.model.proofs.Places.{last_append, each_map}
 use Rattle.service.specs.declared.poll.Poll.{Poll}
 use Rattle.cache_model.specs.declared.entry.Entry.{Entry}
-use Rattle.cache_model.specs.Entries.{entry}
 use Rattle.cache_model.specs.Cache.{Cache}
 use Rattle.cache_model.proofs.Steps.{sum_held, Keeps, of_worker, keeps_refl, keeps_trans}
 use Rattle.cache_model.proofs.Serials.{is_serial, is_pair, pair_serial}
@@ -24,7 +23,7 @@ use Rattle.balance_model.proofs.Feed.{FedRight, of_push, read_feed_right}
 use Rattle.balance_model.proofs.Naming.{Grants, SoughtRight, select_right}
 use Rattle.balance_model.proofs.Nobody.{NobodyLeft, select_nobody}
 use Rattle.balance_model.proofs.Holds.{Holds, Open}
-use Rattle.std.proofs.Common.{◌≡◌, ℕ, suc, ◌+◌, ◌<◌, ◌≤◌, Bool, true, false, ◌⊎◌, [], ◌∷◌, ◌++◌, length, Some, None, Ok, Err, Option, Result, sym, refl, ap, ◌∙◌, inl, inr, arith}
+use Rattle.std.proofs.Common.{◌≡◌, ℕ, suc, ◌<◌, ◌≤◌, Bool, true, false, ◌⊎◌, [], ◌∷◌, ◌++◌, length, Some, None, Ok, Err, Option, Result, sym, refl, ap, ◌∙◌, inl, inr, arith}
 use Rattle.std.proofs.lemmas.Bool.{cases_lt}
 use Rattle.service.specs.declared.poll.Poll.TheVariants.{Ready, Pending}
 

@@ -2,7 +2,6 @@
 use Rattle.model.specs.Lists.{Each}
 use Rattle.model.proofs.Totals.{total}
 use Rattle.model.proofs.Places.{each_append}
-use Rattle.service.specs.declared.poll.Poll.{Poll}
 use Rattle.cache_model.specs.declared.entry.Entry.{Entry}
 use Rattle.cache_model.specs.Cache.{Cache}
 use Rattle.cache_model.proofs.Steps.{sum_held, of_worker}

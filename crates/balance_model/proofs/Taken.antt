@@ -3,7 +3,6 @@ use Rattle.model.specs.Outcome.{Outcome}
 use Rattle.model.specs.Lists.{at}
 use Rattle.model.proofs.Cases.{cond_case, some_case, result_case}
 use Rattle.rng.specs.Words.{Words}
-use Rattle.service.specs.declared.poll.Poll.{Poll}
 use Rattle.cache_model.specs.Cache.{Cache, check}
 use Rattle.cache_model.proofs.Cases.{check_case}
 use Rattle.balance_model.specs.declared.answer.CallError.{CallError}

@@ -23,10 +23,9 @@ use Rattle.balance_model.specs.declared.answer.CompleteError.{CompleteError}
 use Rattle.balance_model.specs.declared.answer.CompleteError.TheVariants.{UnknownTicket}
 use Rattle.balance_model.specs.declared.answer.Completion.{Completion}
 use Rattle.balance_model.specs.declared.answer.Completion.TheVariants.{Held, Gone}
-use Rattle.balance_model.specs.declared.docket_record.DocketRecord.{DocketRecord}
 use Rattle.balance_model.specs.Meanings.{Meanings}
 use Rattle.balance_model.specs.Docket.{Docket, new_docket, docket_refuses, noted, removed}
-use Rattle.balance_model.specs.Draw.{Draw, Drawn, draw}
+use Rattle.balance_model.specs.Draw.{Draw, draw}
 
 -- ---- the three, and how they are made
 

@@ -1,6 +1,5 @@
 -- A draw: two places by two words, and of these the lighter.
 use Rattle.std.specs.Prelude.{ℕ, ◌-◌, ◌%◌, cond, List, [], ◌∷◌, length, nat_lt}
-use Rattle.model.specs.Outcome.{Outcome}
 use Rattle.model.specs.Options.{by_some}
 use Rattle.sampling.specs.Pairs.{first_place}
 use Rattle.rng.specs.Words.{Words, nth_word, after_two}

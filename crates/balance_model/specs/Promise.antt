@@ -1,11 +1,11 @@
 -- What is promised of every run.
-use Rattle.std.specs.Prelude.{◌≡◌, ℕ, ◌+◌, ◌-◌, ◌%◌, ◌<◌, ◌≤◌, Bool, false, not, T, ◌⊎◌, ◌↔◌, List, [], ◌∷◌, ◌++◌, length, Some, None, Ok, Err, Option, Result}
+use Rattle.std.specs.Prelude.{◌≡◌, ℕ, ◌+◌, ◌-◌, ◌%◌, ◌<◌, ◌≤◌, Bool, false, T, ◌⊎◌, ◌↔◌, List, [], ◌∷◌, ◌++◌, length, Some, None, Ok, Err, Result}
 use Rattle.model.specs.Options.{by_some}
 use Rattle.model.specs.Lists.{how_many, at, Each}
 use Rattle.sampling.specs.Pairs.{OnePairEach}
 use Rattle.sampling.specs.Shares.{won_by, Share}
 use Rattle.rng.specs.Words.{Words, nth_word, after_two}
-use Rattle.service.specs.Meaning.{Sameness, Endpoints, Weights}
+use Rattle.service.specs.Meaning.{Endpoints, Weights}
 use Rattle.cache_model.specs.declared.entry.Entry.{Entry}
 use Rattle.cache_model.specs.Cache.{Cache}
 use Rattle.cache_model.specs.Laws.{KeysOnce, SerialsOnce}

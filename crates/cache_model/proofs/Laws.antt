@@ -1,24 +1,24 @@
 -- After any sequence of calls on a newly made cache, its laws hold.
-use Rattle.std.proofs.Common.{◌≡◌, ℕ, zero, suc, ◌+◌, ◌-◌, ◌<◌, ◌≤◌, Bool, true, false, cond, T, eqb, ltb, ◌⊎◌, List, [], ◌∷◌, ◌++◌, length, Some, None, Option, Result, sym, refl, ap, ◌∙◌, subst, inl, inr, le_trans, le_refl, arith, length-append}
+use Rattle.std.proofs.Common.{◌≡◌, ℕ, ◌<◌, ◌≤◌, Bool, true, false, eqb, ◌⊎◌, List, [], ◌∷◌, ◌++◌, length, Result, sym, refl, ap, subst, inl, inr, le_trans, arith}
 use Rattle.std.proofs.lemmas.Bool.{ne_eqb, eq-eqb, cases_lt}
 use Rattle.std.proofs.lemmas.Bool.Decides.{eqb_tells}
 use Rattle.model.specs.Outcome.{Outcome}
-use Rattle.model.specs.Lists.{at, swap_remove, Each}
+use Rattle.model.specs.Lists.{at, Each}
 use Rattle.model.specs.Sums.{one_if}
-use Rattle.model.proofs.Cases.{cond_case, some_case}
+use Rattle.model.proofs.Cases.{some_case}
 use Rattle.model.proofs.Places.{each_append}
 use Rattle.model.proofs.Totals.{total, total_append, total_swap, total_swap_le}
 use Rattle.service.specs.Meaning.{Sameness, Endpoints, refused_by}
 use Rattle.cache_model.specs.declared.entry.Entry.{Entry}
 use Rattle.cache_model.specs.declared.error.Failed.{Failed}
 use Rattle.cache_model.specs.declared.error.CallRefusal.{CallRefusal}
-use Rattle.cache_model.specs.Entries.{holding, has_key, has_serial, live_of, set_aside, ready_place}
-use Rattle.cache_model.specs.Cache.{Cache, new_cache, Asked, held, with_lists, taken_in, push, evict, poll_pending, check, check_key, call, call_key, finish, load}
+use Rattle.cache_model.specs.Entries.{holding, has_key, has_serial, live_of, ready_place}
+use Rattle.cache_model.specs.Cache.{Cache, new_cache, Asked, held, taken_in, push, check_key, call, call_key, finish}
 use Rattle.cache_model.specs.Laws.{KeysOnce, SerialsOnce, Lawful, CacheCall, pushing, evicting, polling_pending, checking_index, checking, calling_index, calling, finishing, loading, after_call, after_calls, AlwaysLawful}
-use Rattle.cache_model.proofs.Keys.{how_many_total, one_if_le, of_key, of_live, aside_single}
+use Rattle.cache_model.proofs.Keys.{how_many_total, one_if_le, of_key, aside_single}
 use Rattle.cache_model.proofs.Steps.{of_worker, sum_held, Single, Keeps, keeps_refl, evict_keeps, poll_pending_keeps, check_keeps, load_keeps, aside_sum}
 use Rattle.cache_model.proofs.Serials.{is_serial}
-use Rattle.cache_model.proofs.Finish.{Told, finish_told, finish_keeps}
+use Rattle.cache_model.proofs.Finish.{finish_told}
 use Rattle.cache_model.proofs.Pushes.{push_cases, pushed_sum, pushed_single}
 
 -- one for each entry

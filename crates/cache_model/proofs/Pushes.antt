@@ -1,5 +1,5 @@
 -- What a push does: it is refused and changes nothing, or one worker comes in under the next serial.
-use Rattle.std.proofs.Common.{◌≡◌, ℕ, ◌+◌, ◌-◌, ◌^◌, ◌<◌, ◌≤◌, Bool, true, false, cond, not, ◌&&◌, T, ltb, ◌⊎◌, List, [], ◌∷◌, ◌++◌, Ok, Err, Result, sym, refl, ap, ◌∙◌, subst, inl, inr, arith}
+use Rattle.std.proofs.Common.{◌≡◌, ℕ, ◌+◌, ◌-◌, ◌^◌, ◌<◌, ◌≤◌, Bool, true, false, not, ◌&&◌, T, ltb, ◌⊎◌, [], ◌∷◌, ◌++◌, Ok, Err, Result, refl, inl, inr, arith}
 use Rattle.std.proofs.lemmas.Bool.{ltb-true, not-false}
 use Rattle.model.specs.Outcome.{Outcome}
 use Rattle.model.specs.Sums.{one_if}

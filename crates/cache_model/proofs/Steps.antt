@@ -1,17 +1,15 @@
 -- What the steps of a cache keep: no worker is made or counted anew, and no key gets a second entry.
-use Rattle.std.proofs.Common.{◌≡◌, ℕ, zero, suc, ◌+◌, ◌-◌, ◌<◌, ◌≤◌, Bool, true, false, cond, not, ◌&&◌, ◌||◌, T, eqb, ltb, List, [], ◌∷◌, ◌++◌, length, take, drop, set, Some, None, Option, Result, sym, refl, ap, ◌∙◌, subst, ap₂, le_trans, le_refl, arith}
+use Rattle.std.proofs.Common.{◌≡◌, ℕ, ◌+◌, ◌≤◌, Bool, false, List, [], ◌∷◌, ◌++◌, take, drop, Option, Result, refl, ap, ◌∙◌, le_trans, le_refl, arith}
 use Rattle.model.specs.Outcome.{Outcome}
-use Rattle.model.specs.Options.{by_some}
-use Rattle.model.specs.Lists.{at, swap_remove}
-use Rattle.model.specs.Sums.{one_if}
+use Rattle.model.specs.Lists.{at}
 use Rattle.model.proofs.Cases.{cond_case, some_case}
 use Rattle.model.proofs.Totals.{total, total_append, total_swap, total_swap_le, total_set, total_take_drop}
 use Rattle.service.specs.Meaning.{Sameness, Endpoints}
 use Rattle.cache_model.specs.declared.entry.Entry.{Entry}
 use Rattle.cache_model.specs.declared.error.Failed.{Failed}
-use Rattle.cache_model.specs.Entries.{entry, holding, has_key, live_of, any_live, cancel, cancelled, promote, set_aside, ready_place}
+use Rattle.cache_model.specs.Entries.{holding, has_key, live_of, any_live, cancel, promote, set_aside, ready_place}
 use Rattle.cache_model.specs.Cache.{Cache, Question, Asked, with_lists, has_place, asking_first, evict, Passed, pass, poll_pending, check, load}
-use Rattle.cache_model.proofs.Cases.{readiness_case, check_case}
+use Rattle.cache_model.proofs.Cases.{readiness_case}
 use Rattle.cache_model.proofs.Keys.{of_key, of_live, promote_single, cancel_less, aside_single}
 
 module _ {K S Q A E W : Type 0} (keys : Sameness K) (ends : Endpoints S Q A E W) where

@@ -1,7 +1,6 @@
 -- The answers of a cache: the number of each refusal and fault, and cases.
 use Rattle.std.specs.Prelude.{ℕ, Bool, true, false, Ok, Err, Result}
 use Rattle.service.specs.declared.poll.Poll.{Poll}
-use Rattle.service.specs.declared.poll.Poll.TheVariants as poll
 use Rattle.service.specs.declared.readiness.Readiness.{Readiness}
 use Rattle.service.specs.declared.readiness.Readiness.TheVariants.{Ready, Pending, Failed}
 use Rattle.service.specs.declared.refusal.EndpointRefusal.{EndpointRefusal}

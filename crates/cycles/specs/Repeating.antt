@@ -1,5 +1,4 @@
 -- A feed that starts over where another one ends.
-use Rattle.std.specs.Prelude.{ℕ}
 use Rattle.model.specs.Outcome.{Outcome, outcome}
 use Rattle.discover.specs.declared.discovered.Discovered.{Discovered}
 use Rattle.discover.specs.declared.discovered.Discovered.TheVariants.{Pending, End, Fault, Insert, Remove}

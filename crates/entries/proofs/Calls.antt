@@ -1,5 +1,5 @@
 -- What the answer of an endpoint's call tells of the endpoint.
-use Rattle.std.proofs.Common.{◌≡◌, ℕ, Some, None, Ok, Err, Option, Result, sym, refl, ap, ◌∙◌, arith}
+use Rattle.std.proofs.Common.{◌≡◌, ℕ, Some, None, Ok, Err, Option, Result, refl, arith}
 use Rattle.model.specs.Outcome.{Outcome, outcome}
 use Rattle.model.specs.Options.{by_some}
 use Rattle.service.specs.declared.refusal.EndpointRefusal.{EndpointRefusal}

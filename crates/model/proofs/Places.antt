@@ -1,6 +1,6 @@
 -- What stands at a place of a list.
 use Rattle.std.proofs.Common.{◌≡◌, ℕ, zero, suc, ◌<◌, Bool, true, false, cond, List, [], ◌∷◌, ◌++◌, length, set, Some, None, Option, sym, refl, ap, ◌∙◌, subst, le_of_suc-le-suc, not-suc-le-zero}
-use Rattle.model.specs.Lists.{at, last, front, refilled, swap_remove, place_of, one_more, last_of, Each}
+use Rattle.model.specs.Lists.{at, last, front, swap_remove, place_of, one_more, last_of, Each}
 use Rattle.model.proofs.Cases.{no_some}
 
 module _ {A : Type 0} where

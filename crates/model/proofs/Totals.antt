@@ -1,5 +1,5 @@
 -- A number for each entry, summed over a list: what the list steps do to the sum.
-use Rattle.std.proofs.Common.{◌≡◌, ℕ, zero, suc, ◌+◌, ◌<◌, ◌≤◌, Bool, true, false, cond, List, [], ◌∷◌, ◌++◌, length, take, drop, set, Some, None, Option, sym, refl, ap, ◌∙◌, subst, arith}
+use Rattle.std.proofs.Common.{◌≡◌, ℕ, zero, suc, ◌+◌, ◌≤◌, List, [], ◌∷◌, ◌++◌, take, drop, set, Some, refl, ap, arith}
 use Rattle.model.specs.Lists.{at, last, front, refilled, swap_remove}
 use Rattle.model.proofs.Cases.{no_some}
 

@@ -1,5 +1,5 @@
 -- The steps of a pass that moves what stays to the front of the same list.
-use Rattle.std.proofs.Common.{◌≡◌, ℕ, zero, suc, ◌+◌, ◌-◌, ◌<◌, ◌≤◌, min, Bool, true, false, cond, List, [], ◌∷◌, ◌++◌, length, get_or, take, drop, set, Some, None, Ok, Err, Option, Result, sym, refl, ap, ◌∙◌, subst, ap₂, arith}
+use Rattle.std.proofs.Common.{◌≡◌, ℕ, ◌+◌, ◌<◌, ◌≤◌, Bool, true, false, cond, List, [], ◌∷◌, ◌++◌, length, get_or, take, drop, set, Some, None, Ok, Err, Option, Result, sym, refl, ap, ◌∙◌, subst, arith}
 use Rattle.std.proofs.lemmas.List.{append_assoc, length-take-le, length-set, get_or-take, drop_more, drop-set-lt, drop_all, take-set-le, take_more_set, get_or-set_same}
 use Rattle.std.proofs.lemmas.Bool.{cond-true, cond-false}
 use Rattle.model.specs.Options.{by_some}
@@ -14,11 +14,11 @@ use Rattle.cache_model.specs.declared.error.PendingError.{PendingError}
 use Rattle.cache_model.specs.declared.error.PendingError.TheVariants as error
 use Rattle.cache_model.specs.Answers.{by_readiness}
 use Rattle.cache_model.specs.Entries.{holding, promote}
-use Rattle.cache_model.specs.Cache.{Question, Passed, asking_first, pass, has_place}
+use Rattle.cache_model.specs.Cache.{Question, asking_first, pass, has_place}
 use Rattle.entries.specs.Asking.{told}
 use Rattle.ready_cache.proofs.Steps.{pick_ready, pick_pending, pick_failed}
 use Rattle.ready_cache.specs.declared.places.Places.{Places}
-use Rattle.ready_cache.specs.Passing.{over, kept, Turned, Promoted, Refused, Ended, ended, fault_of, left_of, Went, Ends}
+use Rattle.ready_cache.specs.Passing.{over, kept, Turned, Promoted, Refused, Ended, ended, left_of, Went, Ends}
 
 -- ---- lists
 

@@ -1,5 +1,5 @@
 -- What a pass that ended leaves of the cache.
-use Rattle.std.proofs.Common.{◌≡◌, ℕ, zero, suc, ◌+◌, ◌-◌, ◌<◌, ◌≤◌, min, List, [], ◌∷◌, ◌++◌, length, take, drop, Some, None, Ok, Err, Option, Result, sym, refl, ap, ◌∙◌, subst, ⊎_elim, arith}
+use Rattle.std.proofs.Common.{◌≡◌, ℕ, zero, suc, ◌+◌, ◌-◌, ◌<◌, ◌≤◌, min, List, [], ◌∷◌, ◌++◌, length, take, drop, Ok, Err, Result, sym, refl, ap, ◌∙◌, subst, ⊎_elim, arith}
 use Rattle.std.proofs.lemmas.List.{length-take-le, drop_all, take-take, take_all}
 use Rattle.std.proofs.lemmas.Bool.{cases_lt}
 use Rattle.model.specs.Options.{by_some}
@@ -8,10 +8,10 @@ use Rattle.service.specs.declared.poll.Poll.{Poll}
 use Rattle.service.specs.declared.poll.Poll.TheVariants as poll
 use Rattle.cache_model.specs.declared.entry.Entry.{Entry}
 use Rattle.cache_model.specs.declared.error.PendingError.{PendingError}
-use Rattle.cache_model.specs.Cache.{Cache, Asked, capacity_of, Passed, emptied, pass, passed, poll_pending}
+use Rattle.cache_model.specs.Cache.{Cache, capacity_of, emptied, pass, poll_pending}
 use Rattle.ready_cache.specs.declared.places.Places.{Places}
 use Rattle.ready_cache.specs.View.{stored, cut}
-use Rattle.ready_cache.specs.Passing.{Ended, ended, fault_of, left_of, Went, Ends}
+use Rattle.ready_cache.specs.Passing.{Ended, ended, fault_of, left_of, Ends}
 use Rattle.ready_cache.proofs.Views.{listed, leaves}
 
 pub emptied_none : {A : Type 0} (xs : List A) (n : ℕ) → n ≡ 0 → emptied (take n xs) ≡ poll.Ready tt

@@ -1,7 +1,6 @@
 -- The parts of a pass over the pending entries, in memory.
-use Rattle.std.specs.Prelude.{◌≡◌, ℕ, ◌+◌, ◌-◌, ◌≤◌, Bool, true, false, cond, List, [], length, take, drop, set, Some, None, Ok, Err, Option, Result, slice_index_or, slice_set}
+use Rattle.std.specs.Prelude.{◌≡◌, ℕ, ◌+◌, ◌-◌, ◌≤◌, true, false, cond, List, length, take, drop, set, Some, None, Ok, Err, Option, Result, slice_index_or, slice_set}
 use Rattle.service.specs.Meaning.{Sameness, Endpoints}
-use Rattle.service.specs.declared.readiness.Readiness.{Readiness}
 use Rattle.cache_model.specs.declared.entry.Entry.{Entry}
 use Rattle.cache_model.specs.declared.error.Failed.{Failed}
 use Rattle.cache_model.specs.declared.error.PendingError.{PendingError}

@@ -1,9 +1,8 @@
 -- The words of the two sources, by their number.
-use Rattle.std.proofs.Common.{◌≡◌, ℕ, zero, suc, ◌+◌, ◌%◌, ◌^◌, ◌<◌, ◌≤◌, Bool, true, false, cond, ltb, ◌⊎◌, List, [], ◌∷◌, length, get_or, sym, refl, ap, ◌∙◌, subst, inl, inr, mod-lt, mod-eq_of_lt, zero-add, arith, lit<, Bor}
+use Rattle.std.proofs.Common.{◌≡◌, ℕ, zero, suc, ◌+◌, ◌%◌, ◌^◌, ◌<◌, ◌≤◌, ◌⊎◌, List, length, get_or, sym, ap, ◌∙◌, inl, inr, mod-lt, mod-eq_of_lt, zero-add, arith, lit<, Bor}
 use native.Mathlib.Nat.{mod-add-mod, add-mod_left}
 use Rattle.std.proofs.lemmas.Bool.{lt-ltb, le-ltb, cases_lt}
 use Rattle.std.proofs.lemmas.List.{get_or_past}
-use Rattle.rng.specs.declared.hasher_rng.HasherRng.{HasherRng}
 use Rattle.rng.specs.declared.list_rng.ListRng.{ListRng}
 use Rattle.rng.specs.Words.{nth_word}
 use Rattle.rng.specs.Fnv.{fnv_1a}

@@ -1,5 +1,5 @@
 -- What Floyd's algorithm says of a sample.
-use Rattle.std.proofs.Common.{◌≡◌, ℕ, ◌-◌, ◌%◌, ◌≤◌, Bool, false, cond, ltb, List, [], ◌∷◌, get_or, sym, ◌∙◌, subst, mod-lt, arith}
+use Rattle.std.proofs.Common.{◌≡◌, ℕ, ◌-◌, ◌%◌, ◌≤◌, false, ltb, List, [], ◌∷◌, get_or, sym, subst, mod-lt, arith}
 use Rattle.std.proofs.lemmas.Bool.{le-ltb}
 use Rattle.sampling.specs.Pairs.{places, TwoBelow}
 use Rattle.sampling.specs.Floyd.{floyd, SameSet}

@@ -1,7 +1,7 @@
 -- The two sources of words: a list that starts over, and the hash of a counter.
 use Rattle.std.specs.Prelude.{ℕ, ◌+◌, ◌/◌, ◌%◌, ◌^◌, cond, List, [], ◌∷◌, length, nat_lt, slice_index}
 use Rattle.std.specs.Borrow.{Bor}
-use Rattle.model.specs.Outcome.{Outcome, outcome}
+use Rattle.model.specs.Outcome.{outcome}
 use Rattle.rng.specs.declared.hasher_rng.HasherRng.{HasherRng}
 use Rattle.rng.specs.declared.list_rng.ListRng.{ListRng}
 use Rattle.rng.specs.Words.{Words}

@@ -1,5 +1,5 @@
 -- `up_to` is total and transitive on all of the values, infinities, zeros of both signs and what is not a number among them.
-use Rattle.std.proofs.Common.{◌≡◌, ℕ, ◌+◌, ◌*◌, ◌<◌, ◌≤◌, Bool, true, false, not, ◌&&◌, ◌||◌, T, eqb, ltb, ◌⊎◌, sym, ap, ◌∙◌, subst, inl, inr, le_of_eq, mul-le-mul_right, zero-mul, mul_right_comm, le_of_mul-le-mul_right, arith, eqb→eq, ltb→lt, lt→ltb}
+use Rattle.std.proofs.Common.{◌≡◌, ℕ, ◌+◌, ◌*◌, ◌<◌, ◌≤◌, Bool, true, false, ◌&&◌, ◌||◌, T, eqb, ltb, ◌⊎◌, sym, ap, ◌∙◌, subst, inl, inr, le_of_eq, mul-le-mul_right, zero-mul, mul_right_comm, le_of_mul-le-mul_right, arith, eqb→eq, ltb→lt, lt→ltb}
 use lib.Ieee.{Float, nan, inf, fin, up, down, below, level, le, is_nan}
 use lib.Ieee.Fits.{down_pos, eq→eqb, and_l, and_r}
 use Rattle.std.proofs.lemmas.Bool.{cases_lt}

@@ -1,5 +1,5 @@
 -- A whole run, from what it is handed, and what it gives back.
-use Rattle.std.specs.Prelude.{◌≡◌, ℕ, List, [], length, vec_items}
+use Rattle.std.specs.Prelude.{◌≡◌, ℕ, List, [], vec_items}
 use Rattle.cache_model.specs.Cache.{Cache, capacity_of}
 use Rattle.balance_model.specs.declared.pick.Pick.{Pick}
 use Rattle.balance_model.specs.declared.pick.Answer.{Answer}

@@ -1,9 +1,9 @@
 -- The two places of a remainder pair are Floyd's sample of two.
-use Rattle.std.proofs.Common.{◌≡◌, ℕ, suc, ◌-◌, ◌<◌, ◌≤◌, Bool, true, false, cond, ◌||◌, eqb, ◌≢◌, ◌⊎◌, List, [], ◌∷◌, sym, refl, ap, ◌∙◌, inl, inr, arith}
+use Rattle.std.proofs.Common.{◌≡◌, ℕ, suc, ◌-◌, ◌<◌, ◌≤◌, Bool, true, false, ◌||◌, eqb, ◌⊎◌, [], ◌∷◌, sym, refl, ap, ◌∙◌, inl, inr, arith}
 use Rattle.std.proofs.lemmas.Bool.Decides.{eqb_tells}
 use Rattle.std.proofs.lemmas.Bool.{eq-eqb, ne_eqb}
 use Rattle.sampling.specs.Pairs.{first_place, places, TwoBelow}
-use Rattle.sampling.specs.Floyd.{member, joined, floyd, SameSet}
+use Rattle.sampling.specs.Floyd.{member, floyd, SameSet}
 
 either_way : (p q : Bool) → p || (q || false) ≡ q || (p || false)
 either_way true true = refl

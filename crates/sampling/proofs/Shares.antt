@@ -1,11 +1,11 @@
 -- How many remainder pairs draw a given place.
-use Rattle.std.proofs.Common.{◌≡◌, ℕ, zero, suc, ◌+◌, ◌-◌, ◌*◌, ◌<◌, ◌≤◌, Bool, true, false, cond, not, ◌&&◌, ◌||◌, T, eqb, ◌⊎◌, sym, refl, ap, ◌∙◌, subst, ap₂, inl, inr, add-zero, mul_comm, zero-add, mul-one, arith}
+use Rattle.std.proofs.Common.{◌≡◌, ℕ, suc, ◌+◌, ◌-◌, ◌*◌, ◌<◌, ◌≤◌, Bool, true, false, cond, not, ◌&&◌, ◌||◌, T, eqb, ◌⊎◌, sym, refl, ap, ◌∙◌, subst, ap₂, inl, inr, mul_comm, mul-one, arith}
 use Rattle.std.proofs.lemmas.Bool.Decides.{eqb_tells}
-use Rattle.std.proofs.lemmas.Bool.{eq-eqb, ne_eqb, cases_Bool}
-use Rattle.model.specs.Sums.{sum_below, one_if, count_below}
-use Rattle.model.proofs.Sums.{sum_ext, sum_add, sum_zero, sum_twice, sum_past, sum_at, sum_const}
-use Rattle.sampling.specs.Pairs.{count_pairs, first_place, TwoBelow, gives, OnePairEach}
-use Rattle.sampling.specs.Shares.{TotalBelow, winner, won_by, heavier, as_heavy, Share, FairShares}
+use Rattle.std.proofs.lemmas.Bool.{eq-eqb, ne_eqb}
+use Rattle.model.specs.Sums.{sum_below, one_if}
+use Rattle.model.proofs.Sums.{sum_ext, sum_add, sum_zero, sum_twice, sum_at, sum_const}
+use Rattle.sampling.specs.Pairs.{count_pairs, TwoBelow, gives, OnePairEach}
+use Rattle.sampling.specs.Shares.{winner, won_by, heavier, as_heavy, FairShares}
 
 -- what a function gives at two different places, and nothing where they are the same
 abbrev apart : (ℕ → ℕ → ℕ) → ℕ → ℕ → ℕ

@@ -1,5 +1,5 @@
 -- Floyd's combination algorithm (J. Bentley and R. Floyd, "A sample of brilliance", 1987), for a sample of any size.
-use Rattle.std.specs.Prelude.{◌≡◌, ℕ, suc, ◌-◌, Bool, true, false, cond, ◌||◌, List, [], ◌∷◌, length, ◌==◌}
+use Rattle.std.specs.Prelude.{◌≡◌, ℕ, suc, ◌-◌, Bool, false, cond, ◌||◌, List, [], ◌∷◌, length, ◌==◌}
 
 -- whether a number is in a sample
 abbrev pub member : ℕ → List ℕ → Bool

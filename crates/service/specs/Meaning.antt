@@ -1,5 +1,5 @@
 -- What the interfaces mean: for each a record of functions, with the laws that they obey.
-use Rattle.std.specs.Prelude.{◌≡◌, ℕ, ◌+◌, ◌-◌, ◌<◌, Bool, true, false, cond, ◌||◌, T, is_some, Some, None, Ok, Err, Option, Result, nat_lt}
+use Rattle.std.specs.Prelude.{◌≡◌, ℕ, ◌+◌, ◌-◌, ◌<◌, Bool, cond, ◌||◌, T, is_some, Some, None, Ok, Err, Option, Result, nat_lt}
 use Rattle.model.specs.Outcome.{Outcome, outcome}
 use Rattle.model.specs.Options.{by_some}
 use Rattle.service.specs.declared.readiness.Readiness.{Readiness}

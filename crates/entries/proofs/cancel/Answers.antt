@@ -1,4 +1,4 @@
-use Rattle.std.proofs.Common.{◌≡◌, [], get_or, take, is_some, sym, refl, ap, ◌∙◌}
+use Rattle.std.proofs.Common.{[], take, is_some, sym, ap, ◌∙◌}
 use Rattle.std.proofs.lemmas.List.{append-nil}
 use Rattle.lists.proofs.Places.{not_found}
 use Rattle.cache_model.specs.Entries.{cancelled, live_of}

@@ -1,4 +1,4 @@
-use Rattle.std.proofs.Common.{◌<◌, ◌≤◌, length, take, sym, ⊎_elim, arith}
+use Rattle.std.proofs.Common.{◌≤◌, length, take, sym, arith}
 use Rattle.std.proofs.lemmas.List.{length-take}
 use Rattle.model.proofs.Lists.{at_past}
 use Rattle.lists.proofs.Places.{at_front}

@@ -1,4 +1,4 @@
-use Rattle.std.proofs.Common.{◌≡◌, ℕ, ◌+◌, ◌*◌, sym, ap, ◌∙◌, arith}
+use Rattle.std.proofs.Common.{ℕ, ◌+◌, ◌*◌, sym, arith}
 use Rattle.lists.proofs.Places.{place_next}
 use Rattle.lists.proofs.pass_over.Goals as goal
 

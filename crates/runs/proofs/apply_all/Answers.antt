@@ -1,8 +1,8 @@
-use Rattle.std.proofs.Common.{◌≡◌, List, vec_items, sym, subst}
+use Rattle.std.proofs.Common.{vec_items}
 use Rattle.ready_cache.specs.View.{view as cache_view}
 use Rattle.docket.specs.View.{view as docket_view}
 use Rattle.balance.specs.View.{kinds, state}
-use Rattle.runs.specs.Runs.{Applied, from_state}
+use Rattle.runs.specs.Runs.{from_state}
 use Rattle.runs.proofs.Applying.{applied_more, applied_all, with_items, made_none}
 use Rattle.runs.proofs.apply_all.Goals as goal
 

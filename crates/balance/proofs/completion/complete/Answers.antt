@@ -1,8 +1,6 @@
-use Rattle.std.proofs.Common.{◌≡◌, None, Option, sym, refl, ap, ◌∙◌}
-use Rattle.model.specs.Options.{by_some}
+use Rattle.std.proofs.Common.{sym, ap, ◌∙◌}
 use Rattle.ready_cache.specs.View.{view as cache_view}
 use Rattle.docket.specs.View.{view as docket_view}
-use Rattle.balance_model.specs.Balance.{CompleteOutcome, complete}
 use Rattle.balance_model.proofs.Dockets.{removed_none, complete_unknown}
 use Rattle.balance.proofs.completion.complete.Goals as goal
 

@@ -1,4 +1,4 @@
-use Rattle.std.proofs.Common.{◌≡◌, Ok, Err, sym, ap, ◌∙◌}
+use Rattle.std.proofs.Common.{Ok, sym, ap, ◌∙◌}
 use Rattle.std.proofs.lemmas.Result.{err_from_is_err_and}
 use Rattle.ready_cache.specs.View.{view as cache_view}
 use Rattle.balance.proofs.Searching.{settle_falls, settle_goes_on, settle_ends, settle_sticks}

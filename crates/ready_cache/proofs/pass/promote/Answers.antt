@@ -1,9 +1,9 @@
-use Rattle.std.proofs.Common.{◌≡◌, ◌<◌, true, false, ◌||◌, ltb, [], ◌∷◌, length, get_or, take, set, is_some, sym, refl, ap, ◌∙◌, arith}
+use Rattle.std.proofs.Common.{◌<◌, ◌||◌, ltb, [], ◌∷◌, length, get_or, take, set, is_some, sym, ap, ◌∙◌, arith}
 use Rattle.std.proofs.lemmas.List.{set-set, get_or-set_same, length-take-le}
 use Rattle.std.proofs.lemmas.Bool.{lt-ltb}
 use Rattle.lists.proofs.Places.{not_found}
 use Rattle.cache_model.specs.declared.entry.Entry.{Entry}
-use Rattle.cache_model.specs.Entries.{has_key, ready_place}
+use Rattle.cache_model.specs.Entries.{has_key}
 use Rattle.entries.proofs.Lists.{change_front, renewed, promote_is}
 use Rattle.ready_cache.proofs.pass.promote.Goals as goal
 

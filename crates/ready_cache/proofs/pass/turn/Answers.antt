@@ -1,4 +1,4 @@
-use Rattle.std.proofs.Common.{◌≡◌, length, get_or, Ok, sym, refl, ap, ◌∙◌}
+use Rattle.std.proofs.Common.{length, get_or, Ok, sym, ap, ◌∙◌}
 use Rattle.std.proofs.lemmas.List.{get_or_default}
 use Rattle.lists.proofs.Places.{at_get}
 use Rattle.ready_cache.proofs.Passes.{turned_over, turned_ready, turned_pending, turned_failed}

@@ -1,4 +1,4 @@
-use Rattle.std.proofs.Common.{◌≡◌, not, sym, ap, ◌∙◌}
+use Rattle.std.proofs.Common.{not, ap, ◌∙◌}
 use Rattle.ready_cache.specs.View.{view as cache_view}
 use Rattle.balance.specs.View.{kinds}
 use Rattle.balance.proofs.Searching.{ends_at, again_at, falls_at, ready_at}

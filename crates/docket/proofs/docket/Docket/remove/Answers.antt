@@ -1,4 +1,4 @@
-use Rattle.std.proofs.Common.{◌≡◌, ℕ, eqb, List, [], take, Some, None, Option, sym, ap, ◌∙◌}
+use Rattle.std.proofs.Common.{◌≡◌, ℕ, eqb, List, [], take, Some, None, sym, ap, ◌∙◌}
 use Rattle.model.specs.Lists.{at, place_of}
 use Rattle.model.proofs.Cases.{no_some}
 use Rattle.model.proofs.Places.{at_some}

@@ -1,4 +1,4 @@
-use Rattle.std.proofs.Common.{◌≡◌, take, Some, None, Ok, sym, refl, ap, ◌∙◌}
+use Rattle.std.proofs.Common.{◌≡◌, take, Ok, sym, ap, ◌∙◌}
 use Rattle.model.specs.Lists.{at}
 use Rattle.ready_cache.specs.View.{view}
 use Rattle.ready_cache.proofs.Views.{wrote, wrote_view}

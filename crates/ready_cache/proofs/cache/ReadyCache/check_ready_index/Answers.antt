@@ -1,7 +1,7 @@
-use Rattle.std.proofs.Common.{◌≡◌, take, Ok, sym, refl, ap, ◌∙◌}
+use Rattle.std.proofs.Common.{◌≡◌, take, Ok, sym, ap, ◌∙◌}
 use Rattle.model.specs.Lists.{at}
-use Rattle.ready_cache.specs.View.{view, cut}
-use Rattle.ready_cache.proofs.Views.{wrote, wrote_view}
+use Rattle.ready_cache.specs.View.{view}
+use Rattle.ready_cache.proofs.Views.{wrote_view}
 use Rattle.ready_cache.proofs.Steps.{asked, check_answer, check_ready, check_pending, check_failed}
 use Rattle.ready_cache.proofs.cache.ReadyCache.check_ready_index.Goals as goal
 

@@ -1,4 +1,4 @@
-use Rattle.std.proofs.Common.{◌≡◌, ◌-◌, ◌≤◌, min, length, take, Some, None, sym, refl, ap, ◌∙◌, arith}
+use Rattle.std.proofs.Common.{◌≡◌, ◌-◌, min, length, take, None, sym, ap, ◌∙◌, arith}
 use Rattle.model.specs.Options.{by_some}
 use Rattle.model.specs.Lists.{at, swap_remove}
 use Rattle.cache_model.specs.Entries.{set_aside}

@@ -1,9 +1,8 @@
-use Rattle.std.proofs.Common.{◌≡◌, Bool, true, false, ◌||◌, length, take, is_some, sym, refl, ap, ◌∙◌, arith}
-use Rattle.model.specs.Options.{by_some}
+use Rattle.std.proofs.Common.{take, sym, refl, ap, ◌∙◌, arith}
 use Rattle.model.specs.Lists.{swap_remove}
-use Rattle.cache_model.specs.Entries.{any_live, cancel, ready_place}
+use Rattle.cache_model.specs.Entries.{cancel, ready_place}
 use Rattle.cache_model.specs.Cache.{with_lists, evict}
-use Rattle.ready_cache.specs.View.{view, stored}
+use Rattle.ready_cache.specs.View.{stored}
 use Rattle.ready_cache.proofs.Views.{rewrites}
 use Rattle.ready_cache.proofs.Steps.{evict_found, evict_missed}
 use Rattle.ready_cache.proofs.cache.ReadyCache.evict.Goals as goal

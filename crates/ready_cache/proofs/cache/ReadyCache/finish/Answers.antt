@@ -1,4 +1,4 @@
-use Rattle.std.proofs.Common.{◌≡◌, length, take, sym, refl, ap, ◌∙◌, arith}
+use Rattle.std.proofs.Common.{take, sym, refl, ap, ◌∙◌, arith}
 use Rattle.cache_model.specs.Cache.{finish, finish_in}
 use Rattle.ready_cache.specs.View.{stored}
 use Rattle.ready_cache.proofs.Views.{rewrites}

@@ -1,4 +1,4 @@
-use Rattle.std.proofs.Common.{◌≡◌, Some, None, sym, refl, ap, ◌∙◌}
+use Rattle.std.proofs.Common.{Some, None, sym, ap, ◌∙◌}
 use Rattle.model.specs.Options.{by_some}
 use Rattle.model.specs.Lists.{at}
 use Rattle.cache_model.specs.Entries.{holding}

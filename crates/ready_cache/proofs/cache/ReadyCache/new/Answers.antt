@@ -1,4 +1,4 @@
-use Rattle.std.proofs.Common.{◌≡◌, sym, subst}
+use Rattle.std.proofs.Common.{sym, subst}
 use Rattle.cache_model.specs.Laws.{AlwaysLawful}
 use Rattle.cache_model.proofs.Laws.{always_lawful}
 use Rattle.ready_cache.proofs.cache.ReadyCache.new.Goals as goal

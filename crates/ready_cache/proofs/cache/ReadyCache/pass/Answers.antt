@@ -1,4 +1,4 @@
-use Rattle.std.proofs.Common.{◌≡◌, ◌≤◌, length, Some, None, Ok, Err, sym, refl, ap, ◌∙◌}
+use Rattle.std.proofs.Common.{Some, None, Err, sym, ap, ◌∙◌}
 use Rattle.std.proofs.lemmas.Result.{err_from_is_err_and}
 use Rattle.cache_model.specs.declared.error.PendingError.TheVariants as error
 use Rattle.ready_cache.proofs.Passes.{turned_as, ends_as, at_end, step_none, step_failed, step_ready, step_refused}

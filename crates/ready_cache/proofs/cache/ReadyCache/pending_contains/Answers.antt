@@ -1,4 +1,4 @@
-use Rattle.std.proofs.Common.{◌≡◌, take, is_some, sym, ap, ◌∙◌}
+use Rattle.std.proofs.Common.{take, is_some, sym, ap, ◌∙◌}
 use Rattle.cache_model.specs.Entries.{any_live}
 use Rattle.entries.proofs.Lists.{any_live_is}
 use Rattle.ready_cache.proofs.cache.ReadyCache.pending_contains.Goals as goal

@@ -1,4 +1,4 @@
-use Rattle.std.proofs.Common.{◌≡◌, ◌-◌, ◌≤◌, min, length, take, None, sym, refl, ap, ◌∙◌, arith}
+use Rattle.std.proofs.Common.{◌≡◌, ◌-◌, min, length, take, None, sym, refl, ap, ◌∙◌, arith}
 use Rattle.model.specs.Lists.{at, swap_remove}
 use Rattle.lists.proofs.Places.{swap_remove_none}
 use Rattle.cache_model.specs.Cache.{with_lists}
