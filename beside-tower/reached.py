@@ -3,9 +3,9 @@
 
     beside-tower/reached.py [FILE ..]
 
-In a copy of the repository below target/, a trap is put into each branch in turn, and `rt try replay` runs the program, unproved, on its
-stored runs. Where it still writes what it should, the branch was not reached. Prints each branch with what came out, and a count.
-A branch takes about a quarter of a minute. Without FILE the files are those of the balancer, the cache and the docket.
+In a copy of the repository in a temporary folder, a trap is put into each branch in turn, and `rt try` runs the program, unproved, on its
+stored runs. Where it ends well, the branch was not reached. Prints each branch with what came out, and a count.
+A branch takes about half a minute. Without FILE the files are those of the balancer, the cache and the docket.
 """
 
 import pathlib
@@ -13,16 +13,19 @@ import re
 import shutil
 import subprocess
 import sys
+import tempfile
 
 ROOT = pathlib.Path(__file__).resolve().parent.parent
-COPY = ROOT / "target" / "reached"
+COPY = pathlib.Path(tempfile.mkdtemp(prefix="reached-")) / "repository"
 FILES = [
     *(f"crates/balance/src/{name}.rt" for name in ("feed", "search", "poll", "call", "completion")),
     *(f"crates/ready_cache/src/{name}.rt" for name in ("change", "pass", "pending", "serve")),
     "crates/entries/src/lib.rt",
     "crates/docket/src/change.rt",
 ]
-TRAP = "if 1 < 2 { unreachable(); }"
+TRAP = "if 1 < 2 { unreachable!(); }"
+# The status of `rt try` where the program comes to a fault, as a trap is.
+FAULT = 4
 FUNCTION = re.compile(r"(pub(\([a-z]+\))? )?fn ")
 LITERAL = re.compile(r"(= |Err\(|Ok\(|Some\(|=> )[A-Z]\w*(::\w+)? \{$|^[A-Z]\w* \{$|\(Failed \{$|\(PushError \{$")
 
@@ -61,19 +64,17 @@ def is_reached(path, text):
     """Whether the program with this text in place of the file goes into the trap."""
     original = path.read_text()
     path.write_text(text)
-    out = subprocess.run(["rt", "try", "replay"], cwd=COPY, capture_output=True, text=True, check=False)
+    program = COPY / "crates" / "replay"
+    with open(program / "stdin", encoding="utf-8") as runs:
+        out = subprocess.run(["rt", "try", "--steps", "1"], cwd=program, stdin=runs, capture_output=True, text=True, check=False)
     path.write_text(original)
-    said = out.stdout + out.stderr
-    if "FAIL: the native program at -O0" in said:
-        return True
-    if "ok: the native program at -O0" in said:
-        return False
-    raise RuntimeError(f"{path}: the program was not built:\n{said[-2000:]}")
+    if out.returncode in (0, FAULT):
+        return out.returncode == FAULT
+    raise RuntimeError(f"{path}: the program was not built:\n{out.stderr[-2000:]}")
 
 
 def main():
-    shutil.rmtree(COPY, ignore_errors=True)
-    shutil.copytree(ROOT, COPY, ignore=shutil.ignore_patterns("target", ".git"))
+    shutil.copytree(ROOT, COPY, ignore=shutil.ignore_patterns("target", "out", ".git"))
     counts = {True: 0, False: 0}
     for name in sys.argv[1:] or FILES:
         path = COPY / name
@@ -83,6 +84,7 @@ def main():
             counts[reached] += 1
             print(f"{name}:{number + 1}: {'reached' if reached else 'NOT REACHED'}: {lines[number].strip()}", flush=True)
     print(f"{counts[True]} branches reached, {counts[False]} not")
+    shutil.rmtree(COPY.parent)
 
 
 main()
