@@ -17,7 +17,8 @@ pub trait Bare: Service {
 
     fn response(response: Self::Response) -> u64;
 
-    fn place(error: Self::Error) -> u8;
+    // The place of a failure in its pattern, from 0; a service that never fails has none to tell, and 0 stands for no failure.
+    fn place(error: Option<Self::Error>) -> u8;
 }
 
 impl Bare for Patterned {
@@ -33,8 +34,8 @@ impl Bare for Patterned {
         response
     }
 
-    fn place(error: u8) -> u8 {
-        error
+    fn place(error: Option<u8>) -> u8 {
+        error.unwrap_or(0)
     }
 }
 
@@ -51,8 +52,11 @@ impl Bare for Paced {
         response
     }
 
-    fn place(error: Infallible) -> u8 {
-        match error {}
+    fn place(error: Option<Infallible>) -> u8 {
+        match error {
+            Some(error) => match error {},
+            None => 0,
+        }
     }
 }
 
@@ -62,7 +66,7 @@ pub trait Worker: Endpoint {
 
     fn response(response: Self::Response) -> u64;
 
-    fn place(error: Self::Error) -> u8;
+    fn place(error: Option<Self::Error>) -> u8;
 
     // Writes the count, and the estimate if there is one.
     fn show(&self, out: &mut String) -> Result<(), AllocError>;
@@ -77,7 +81,7 @@ impl<B: Bare> Worker for PendingRequests<B> {
         B::response(response)
     }
 
-    fn place(error: B::Error) -> u8 {
+    fn place(error: Option<B::Error>) -> u8 {
         B::place(error)
     }
 
@@ -96,7 +100,7 @@ impl<B: Bare, D: Decay> Worker for PeakEwma<B, D> {
         B::response(response)
     }
 
-    fn place(error: B::Error) -> u8 {
+    fn place(error: Option<B::Error>) -> u8 {
         B::place(error)
     }
 

@@ -67,7 +67,7 @@ pub fn show_failed<S: Worker>(
     out: &mut String,
 ) -> Result<(), AllocError> {
     let key = failed.key;
-    let place = S::place(failed.error);
+    let place = S::place(Some(failed.error));
     write!(out, "fault 11 {key} {place}")
 }
 
