@@ -19,7 +19,7 @@ ROOT = pathlib.Path(__file__).resolve().parent.parent
 COPY = pathlib.Path(tempfile.mkdtemp(prefix="reached-")) / "repository"
 FILES = [
     *(f"crates/balance/src/{name}.rt" for name in ("feed", "search", "poll", "call", "completion")),
-    *(f"crates/ready_cache/src/{name}.rt" for name in ("change", "pass", "pending", "serve")),
+    *(f"crates/ready_cache/src/{name}.rt" for name in ("change", "pass", "serve")),
     "crates/entries/src/lib.rt",
     "crates/docket/src/change.rt",
 ]

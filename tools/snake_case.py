@@ -3,7 +3,7 @@
 
 usage: python3 tools/snake_case.py        at the top of a repository, after the port's script
 
-It collects each name with a dash that a file of specs/ or proofs/ declares (at its top, as a field or constructor, or as a helper
+It collects each name with a dash that a file of specs/ or proofs/ declares (at its top, as a field or constructor, or under a `where`
 of an answer) and each such name that an import gives with 'as', and writes 'read-feed' as 'read_feed' and 'Poll-outcome' as
 'PollOutcome' wherever the name stands: in code outside comments and strings, and between backticks in comments and pages.
 Names of goals and steps are the checker's and stay, and so do names that only a library has. It stops before it writes where two names would fall

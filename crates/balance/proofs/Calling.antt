@@ -1,5 +1,5 @@
 -- A call that the cache refuses changes nothing.
-use Rattle.std.proofs.Common.{◌≡◌, ℕ, Bool, true, false, cond, not, Some, None, Ok, Err, Option, Result, sym, refl, ap, ◌∙◌, arith}
+use Rattle.std.proofs.Common.{◌≡◌, ℕ, Bool, true, false, cond, not, Some, None, Ok, Err, Option, Result, sym, refl, ap, ◌∙◌}
 use Rattle.model.specs.Outcome.{Outcome, outcome}
 use Rattle.model.specs.Options.{by_some, by_result}
 use Rattle.balance_model.specs.declared.answer.DocketRefusal.{DocketRefusal}
@@ -14,11 +14,10 @@ use Rattle.balance_model.specs.declared.answer.CallError.{CallError}
 use Rattle.balance_model.specs.declared.answer.CallError.TheVariants as error
 use Rattle.balance_model.specs.Meanings.{Meanings}
 use Rattle.balance_model.specs.Docket.{Docket, docket_refuses, noted}
-use Rattle.balance_model.specs.Balance.{State, Sent, refused, call_at, call, call_answer}
-use Rattle.balance.specs.declared.balance.Balance.{Balance}
-use Rattle.balance.specs.View.{state}
+use Rattle.balance_model.specs.Balance.{Balancer, State, Sent, refused, call_at, call, call_answer}
+use Rattle.balance.specs.Steps.{state}
 
-module _ {K S Q A E W D F R : Type 0} (m : Meanings K S Q A E W D F R) (now : ℕ) (b : Balance D R) (c : Cache K S) (d : Docket) (q : Q) where
+module _ {K S Q A E W D F R : Type 0} (m : Meanings K S Q A E W D F R) (now : ℕ) (b : Balancer D R) (c : Cache K S) (d : Docket) (q : Q) where
   abbrev st : State K S D R
   st = state b c d
 
@@ -29,7 +28,7 @@ module _ {K S Q A E W D F R : Type 0} (m : Meanings K S Q A E W D F R) (now : �
       (λ response. outcome
       (Ok (record { ticket = d.next; reached = e.serial; response = response }))
       (record {
-        balancer = record { feed = b.discover; words = b.rng; budget = b.budget; selected = None; fresh = false };
+        balancer = record { feed = b.feed; words = b.words; budget = b.budget; selected = None; fresh = false };
         cache = (cache.call m.keys m.endpoints now c i q).after;
         docket = noted d e.serial now;
       }))
@@ -50,7 +49,7 @@ module _ {K S Q A E W D F R : Type 0} (m : Meanings K S Q A E W D F R) (now : �
       let whole : call m now (state b c d) q ≡ refused m now st (error.Cache r) = reaches i e fresh open_docket chosen here ∙ ap (noting i e) refusal in
       (sym (ap (λ o. call_answer o.answer) whole), ap (λ x. state b x d) same ∙ sym (ap (λ o. o.after) whole))
 
--- a docket that admits a request refuses nothing
-pub admitted : (o : Option DocketRefusal) → ◌≡◌ {A = Result (Unit {0}) DocketRefusal} (Ok tt) (by_some o (Ok tt) Err) → o ≡ None
+-- what is answered with Ok has nothing against it
+pub admitted : {X : Type 0} (o : Option X) → ◌≡◌ {A = Result (Unit {0}) X} (Ok tt) (by_some o (Ok tt) Err) → o ≡ None
 admitted None e = refl
-admitted (Some x) e = let z : ◌≡◌ {A = ℕ} 0 1 = cc in absurd (omega arith)
+admitted (Some x) e = cc

@@ -16,17 +16,16 @@ use Rattle.cache_model.proofs.Shrinks.{check_falls, check_held, poll_pending_fal
 use Rattle.service.specs.Meaning.{Sameness, Endpoints}
 use Rattle.balance_model.specs.Meanings.{Meanings}
 use Rattle.balance_model.specs.Draw.{Drawn, draw}
-use Rattle.balance_model.specs.Balance.{Sought, after_these, try, seek_all, select, Settled, settle_all}
+use Rattle.balance_model.specs.Balance.{Balancer, Sought, after_these, try, seek_all, select, Settled, settle_all}
 use Rattle.balance_model.proofs.Loops.{seek_none, seek_some, draw_within, draw_pending, settle_lost, settle_end, settle_stuck}
-use Rattle.balance.specs.declared.balance.Balance.{Balance}
-use Rattle.balance.specs.View.{drawn_place, with_words, check_selected, lost_by, loses_one, SettledAs, SoughtAs, SearchLeft, SettleLeft, unsure}
+use Rattle.balance.specs.Steps.{drawn_place, with_words, check_selected, lost_by, loses_one, SettledAs, SoughtAs, SearchLeft, SettleLeft, unsure}
 
-module _ {K S Q A E W D F R : Type 0} (m : Meanings K S Q A E W D F R) (now : ℕ) (selected : Option ℕ) (c c₁ c₂ : Cache K S) (whole : Sought K S E R) (lost first gone : ℕ) (b b₁ before : Balance D R)
-    (left : SearchLeft (select m now selected c b.rng) whole lost first c b before)
+module _ {K S Q A E W D F R : Type 0} (m : Meanings K S Q A E W D F R) (now : ℕ) (selected : Option ℕ) (c c₁ c₂ : Cache K S) (whole : Sought K S E R) (lost first gone : ℕ) (b b₁ before : Balancer D R)
+    (left : SearchLeft (select m now selected c b.words) whole lost first c b before)
     (asked : Some gone ≡ lost_by (check_selected m.keys m.endpoints now c selected).answer)
     (left_by_check : c₁ ≡ (check_selected m.keys m.endpoints now c selected).after)
-    (drawn_words : b₁ ≡ with_words b (draw m.endpoints m.weights now m.words c₁ b.rng).words)
-    (drawn_cache : c₂ ≡ (draw m.endpoints m.weights now m.words c₁ b.rng).cache)
+    (drawn_words : b₁ ≡ with_words b (draw m.endpoints m.weights now m.words c₁ b.words).words)
+    (drawn_cache : c₂ ≡ (draw m.endpoints m.weights now m.words c₁ b.words).cache)
   where
     -- the worker asked was not ready: the search goes on over what the check left
     record Missed (x y : Sought K S E R) : Type 0 where
@@ -35,17 +34,17 @@ module _ {K S Q A E W D F R : Type 0} (m : Meanings K S Q A E W D F R) (now : �
       words : x.words ≡ y.words
       count : x.lost ≡ gone + y.lost
 
-    missed : Missed (select m now selected c b.rng) (seek_all m now c₁ b.rng)
-    missed = subst (λ (x : Cache K S). Missed (select m now selected c b.rng) (seek_all m now x b.rng)) (sym left_by_check) (by_selected selected asked)
+    missed : Missed (select m now selected c b.words) (seek_all m now c₁ b.words)
+    missed = subst (λ (x : Cache K S). Missed (select m now selected c b.words) (seek_all m now x b.words)) (sym left_by_check) (by_selected selected asked)
       where
         by_answer : (i : ℕ) (v : Result Bool (Failed K E)) → Some gone ≡ lost_by v →
             let k = check m.keys m.endpoints now c i in
-            Missed (by_check v (record { place = Some i; cache = k.after; words = b.rng; lost = 0; asked = k.asked; draws = [] }) (after_these k.asked [] 0 (seek_all m now k.after b.rng)) (after_these k.asked [] 1 (seek_all m now k.after b.rng))) (seek_all m now k.after b.rng)
+            Missed (by_check v (record { place = Some i; cache = k.after; words = b.words; lost = 0; asked = k.asked; draws = [] }) (after_these k.asked [] 0 (seek_all m now k.after b.words)) (after_these k.asked [] 1 (seek_all m now k.after b.words))) (seek_all m now k.after b.words)
         by_answer i (Ok true) e = absurd (no_some (sym e))
         by_answer i (Ok false) e = record { place = refl; cache = refl; words = refl; count = let z : gone ≡ 0 = cc in omega arith }
         by_answer i (Err x) e = record { place = refl; cache = refl; words = refl; count = let z : gone ≡ 1 = cc in omega arith }
 
-        by_selected : (o : Option ℕ) → Some gone ≡ lost_by (check_selected m.keys m.endpoints now c o).answer → Missed (select m now o c b.rng) (seek_all m now (check_selected m.keys m.endpoints now c o).after b.rng)
+        by_selected : (o : Option ℕ) → Some gone ≡ lost_by (check_selected m.keys m.endpoints now c o).answer → Missed (select m now o c b.words) (seek_all m now (check_selected m.keys m.endpoints now c o).after b.words)
         by_selected None e = record { place = refl; cache = refl; words = refl; count = let z : gone ≡ 0 = cc in omega arith }
         by_selected (Some i) e = by_answer i (check m.keys m.endpoints now c i).answer e
 
@@ -66,26 +65,26 @@ module _ {K S Q A E W D F R : Type 0} (m : Meanings K S Q A E W D F R) (now : �
     lost_fits = let h = held_after in let f = left.fits in omega arith
 
     abbrev d : Drawn K S R
-    d = draw m.endpoints m.weights now m.words c₁ b.rng
+    d = draw m.endpoints m.weights now m.words c₁ b.words
 
-    same_balancer : b₁ ≡ with_words before b₁.rng
-    same_balancer = drawn_words ∙ ap (λ (x : Balance D R). with_words x d.words) left.same ∙ ap (λ (r : R). with_words before r) (sym (ap (λ (x : Balance D R). x.rng) drawn_words))
+    same_balancer : b₁ ≡ with_words before b₁.words
+    same_balancer = drawn_words ∙ ap (λ (x : Balancer D R). with_words x d.words) left.same ∙ ap (λ (r : R). with_words before r) (sym (ap (λ (x : Balancer D R). x.words) drawn_words))
 
     -- ---- nobody is ready
 
     pub search_ends : None ≡ drawn_place c₁ d → SoughtAs whole first (None, lost + gone) before b₁ c₂
     search_ends none =
         let z : length c₁.ready ≡ 0 = empty (eqb (length c₁.ready) 0) refl none in
-        let over = seek_none m now c₁ b.rng z in
+        let over = seek_none m now c₁ b.words z in
         let k = missed in
-        let still : d ≡ record { place = 0; cache = c₁; words = b.rng; draws = [] } = rw (lt-ltb (length c₁.ready) 2 (omega arith)) refl in
+        let still : d ≡ record { place = 0; cache = c₁; words = b.words; draws = [] } = rw (lt-ltb (length c₁.ready) 2 (omega arith)) refl in
         let count = left.count in
         let more = k.count in
-        let nobody : (seek_all m now c₁ b.rng).lost ≡ 0 = ap (λ (s : Sought K S E R). s.lost) over in
+        let nobody : (seek_all m now c₁ b.words).lost ≡ 0 = ap (λ (s : Sought K S E R). s.lost) over in
         record {
           place = sym (ap (λ (s : Sought K S E R). s.place) over) ∙ sym k.place ∙ left.place;
           count = omega arith;
-          balancer = same_balancer ∙ ap (with_words before) (ap (λ (x : Balance D R). x.rng) drawn_words ∙ ap (λ (x : Drawn K S R). x.words) still ∙ sym (ap (λ (s : Sought K S E R). s.words) over) ∙ sym k.words ∙ left.words);
+          balancer = same_balancer ∙ ap (with_words before) (ap (λ (x : Balancer D R). x.words) drawn_words ∙ ap (λ (x : Drawn K S R). x.words) still ∙ sym (ap (λ (s : Sought K S E R). s.words) over) ∙ sym k.words ∙ left.words);
           cache = drawn_cache ∙ ap (λ (x : Drawn K S R). x.cache) still ∙ sym (ap (λ (s : Sought K S E R). s.cache) over) ∙ sym k.cache ∙ left.cache;
         }
       where
@@ -111,23 +110,23 @@ module _ {K S Q A E W D F R : Type 0} (m : Meanings K S Q A E W D F R) (now : �
       found = drawn (eqb (length c₁.ready) 0) refl some
 
       same_length : length c₂.ready ≡ length c₁.ready
-      same_length = ap (λ (x : Cache K S). length x.ready) drawn_cache ∙ (draw_within m now c₁ b.rng).same
+      same_length = ap (λ (x : Cache K S). length x.ready) drawn_cache ∙ (draw_within m now c₁ b.words).same
 
-      pub search_goes_on : SearchLeft (select m now (Some place) c₂ b₁.rng) whole (lost + gone) first c₂ b₁ before
+      pub search_goes_on : SearchLeft (select m now (Some place) c₂ b₁.words) whole (lost + gone) first c₂ b₁ before
       search_goes_on =
-          let step = seek_some m now c₁ b.rng found.0 in
+          let step = seek_some m now c₁ b.words found.0 in
           let k = missed in
-          let words : b₁.rng ≡ d.words = ap (λ (x : Balance D R). x.rng) drawn_words in
-          let same : select m now (Some place) c₂ b₁.rng ≡ try m now (seek_all m now) d.place d.cache d.words =
-          ap (λ (i : ℕ). try m now (seek_all m now) i c₂ b₁.rng) found.1
-          ∙ ap (λ (x : Cache K S). try m now (seek_all m now) d.place x b₁.rng) drawn_cache
+          let words : b₁.words ≡ d.words = ap (λ (x : Balancer D R). x.words) drawn_words in
+          let same : select m now (Some place) c₂ b₁.words ≡ try m now (seek_all m now) d.place d.cache d.words =
+          ap (λ (i : ℕ). try m now (seek_all m now) i c₂ b₁.words) found.1
+          ∙ ap (λ (x : Cache K S). try m now (seek_all m now) d.place x b₁.words) drawn_cache
           ∙ ap (λ (r : R). try m now (seek_all m now) d.place d.cache r) words in
           let count = left.count in
           let more = k.count in
-          let next : (seek_all m now c₁ b.rng).lost ≡ 0 + (try m now (seek_all m now) d.place d.cache d.words).lost = ap (λ (s : Sought K S E R). s.lost) step in
-          let these : (select m now (Some place) c₂ b₁.rng).lost ≡ (try m now (seek_all m now) d.place d.cache d.words).lost = ap (λ (s : Sought K S E R). s.lost) same in
+          let next : (seek_all m now c₁ b.words).lost ≡ 0 + (try m now (seek_all m now) d.place d.cache d.words).lost = ap (λ (s : Sought K S E R). s.lost) step in
+          let these : (select m now (Some place) c₂ b₁.words).lost ≡ (try m now (seek_all m now) d.place d.cache d.words).lost = ap (λ (s : Sought K S E R). s.lost) same in
           let r = same_length in
-          let p : length c₂.pending ≡ length c₁.pending = ap (λ (x : Cache K S). length x.pending) drawn_cache ∙ draw_pending m now c₁ b.rng in
+          let p : length c₂.pending ≡ length c₁.pending = ap (λ (x : Cache K S). length x.pending) drawn_cache ∙ draw_pending m now c₁ b.words in
           let h = held_after in
           let f = left.fits in
           record {
@@ -143,7 +142,7 @@ module _ {K S Q A E W D F R : Type 0} (m : Meanings K S Q A E W D F R) (now : �
       pub search_falls : length c₂.ready + unsure (Some place) (length c₂.ready) < length c.ready + unsure selected (length c.ready)
       search_falls =
           let same = same_length in
-          let below = (draw_within m now c₁ b.rng).below found.0 in
+          let below = (draw_within m now c₁ b.words).below found.0 in
           let at_place = found.1 in
           let sure : unsure (Some place) (length c₂.ready) ≡ 0 = ap (λ (t : Bool). cond t 0 1) (lt-ltb place (length c₂.ready) (omega arith)) in
           let h = before_check selected asked (ap (λ (x : Cache K S). length x.ready) left_by_check) in
@@ -155,8 +154,8 @@ module _ {K S Q A E W D F R : Type 0} (m : Meanings K S Q A E W D F R) (now : �
             where
               not_yes : (v : Result Bool (Failed K E)) → Some gone ≡ lost_by v → v ≡ Ok true → ⊥
               not_yes (Ok true) e q = no_some (sym e)
-              not_yes (Ok false) e q = let z : ◌≡◌ {A = ℕ} 0 1 = cc in omega arith
-              not_yes (Err x) e q = let z : ◌≡◌ {A = ℕ} 0 1 = cc in omega arith
+              not_yes (Ok false) e q = cc
+              not_yes (Err x) e q = cc
 
               go : (i < length c.ready) ⊎ (length c.ready ≤ i) → length c₁.ready < length c.ready + unsure (Some i) (length c.ready)
               go (inl h) = let f = check_falls m.keys m.endpoints now c i h (not_yes (check m.keys m.endpoints now c i).answer e) in omega arith
@@ -170,20 +169,20 @@ module _ {K S Q A E W D F R : Type 0} (m : Meanings K S Q A E W D F R) (now : �
 
     pub ends_at : (o : Option ℕ) → o ≡ drawn_place c₁ d → is_some o ≡ false → SoughtAs whole first (None, lost + gone) before b₁ c₂
     ends_at None e t = search_ends e
-    ends_at (Some i) e t = let z : ◌≡◌ {A = ℕ} 0 1 = cc in absurd (omega arith)
+    ends_at (Some i) e t = cc
 
-    pub again_at : (o : Option ℕ) → o ≡ drawn_place c₁ d → is_some o ≡ true → SearchLeft (select m now o c₂ b₁.rng) whole (lost + gone) first c₂ b₁ before
-    again_at None e t = let z : ◌≡◌ {A = ℕ} 0 1 = cc in absurd (omega arith)
+    pub again_at : (o : Option ℕ) → o ≡ drawn_place c₁ d → is_some o ≡ true → SearchLeft (select m now o c₂ b₁.words) whole (lost + gone) first c₂ b₁ before
+    again_at None e t = cc
     again_at (Some i) e t = search_goes_on i e
 
     pub falls_at : (o : Option ℕ) → o ≡ drawn_place c₁ d → is_some o ≡ true → length c₂.ready + unsure o (length c₂.ready) < length c.ready + unsure selected (length c.ready)
-    falls_at None e t = let z : ◌≡◌ {A = ℕ} 0 1 = cc in absurd (omega arith)
+    falls_at None e t = cc
     falls_at (Some i) e t = search_falls i e
 
 -- ---- the worker asked is ready
 
-pub ready_at : {K S Q A E W D F R : Type 0} (m : Meanings K S Q A E W D F R) (now : ℕ) (selected : Option ℕ) (c c₁ : Cache K S) (whole : Sought K S E R) (lost first : ℕ) (b before : Balance D R) →
-    SearchLeft (select m now selected c b.rng) whole lost first c b before → None ≡ lost_by (check_selected m.keys m.endpoints now c selected).answer → c₁ ≡ (check_selected m.keys m.endpoints now c selected).after →
+pub ready_at : {K S Q A E W D F R : Type 0} (m : Meanings K S Q A E W D F R) (now : ℕ) (selected : Option ℕ) (c c₁ : Cache K S) (whole : Sought K S E R) (lost first : ℕ) (b before : Balancer D R) →
+    SearchLeft (select m now selected c b.words) whole lost first c b before → None ≡ lost_by (check_selected m.keys m.endpoints now c selected).answer → c₁ ≡ (check_selected m.keys m.endpoints now c selected).after →
     SoughtAs whole first (selected, lost) before b c₁
 ready_at m now None c c₁ whole lost first b before left none after = absurd (no_some none)
 ready_at {K} {S} {E = E} {R = R} m now (Some i) c c₁ whole lost first b before left none after = go k.answer none left.place left.cache left.words left.count
@@ -192,7 +191,7 @@ ready_at {K} {S} {E = E} {R = R} m now (Some i) c c₁ whole lost first b before
     k = check m.keys m.endpoints now c i
 
     tried : Result Bool (Failed K E) → Sought K S E R
-    tried v = by_check v (record { place = Some i; cache = k.after; words = b.rng; lost = 0; asked = k.asked; draws = [] }) (after_these k.asked [] 0 (seek_all m now k.after b.rng)) (after_these k.asked [] 1 (seek_all m now k.after b.rng))
+    tried v = by_check v (record { place = Some i; cache = k.after; words = b.words; lost = 0; asked = k.asked; draws = [] }) (after_these k.asked [] 0 (seek_all m now k.after b.words)) (after_these k.asked [] 1 (seek_all m now k.after b.words))
 
     go : (v : Result Bool (Failed K E)) → None ≡ lost_by v → (tried v).place ≡ whole.place → (tried v).cache ≡ whole.cache → (tried v).words ≡ whole.words → lost + (tried v).lost ≡ first + whole.lost → SoughtAs whole first (Some i, lost) before b c₁
     go (Ok true) n p q w l = record { place = p; count = omega arith; balancer = left.same ∙ ap (with_words before) w; cache = after ∙ q }
@@ -212,8 +211,8 @@ module _ {K S Q A E W : Type 0} (keys : Sameness K) (ends : Endpoints S Q A E W)
     failed {F} said = go answer refl said
       where
         go : (v : Result (Poll (Unit {0})) (PendingError K E)) → answer ≡ v → Ok true ≡ loses_one {F = F} v → (x : Failed K E) × (answer ≡ Err (pending.Failed x))
-        go (Ok p) e s = let z : ◌≡◌ {A = ℕ} 0 1 = cc in absurd (omega arith)
-        go (Err (pending.NoPlace k)) e s = let z : ◌≡◌ {A = ℕ} 0 1 = cc in absurd (omega arith)
+        go (Ok p) e s = cc
+        go (Err (pending.NoPlace k)) e s = cc
         go (Err (pending.Failed x)) e s = (x, e)
 
     pub settle_falls : {F : Type 0} → Ok true ≡ loses_one {F = F} answer → length c'.pending < length c.pending
@@ -251,18 +250,18 @@ module _ {K S Q A E W : Type 0} (keys : Sameness K) (ends : Endpoints S Q A E W)
             let stuck : whole.stuck ≡ None = sym left.stuck ∙ ap (λ (s : Settled K S E). s.stuck) step in
             let same : lost ≡ whole.lost = omega arith in
             record { answer = rw (stuck, same) refl; cache = after ∙ sym (ap (λ (s : Settled K S E). s.cache) step) ∙ left.cache; few = omega arith }
-        go (Err (pending.NoPlace k)) e s = let z : ◌≡◌ {A = ℕ} 0 1 = cc in absurd (omega arith)
-        go (Err (pending.Failed x)) e s = let z : ◌≡◌ {A = ℕ} 0 1 = cc in absurd (omega arith)
+        go (Err (pending.NoPlace k)) e s = cc
+        go (Err (pending.Failed x)) e s = cc
 
     -- one that found no place is the last too
     pub settle_sticks : {F : Type 0} (r : PollError K F) → Err r ≡ loses_one answer → SettledAs whole (Err r) c'
     settle_sticks {F} r said = go answer refl said
       where
         go : (v : Result (Poll (Unit {0})) (PendingError K E)) → answer ≡ v → Err r ≡ loses_one v → SettledAs whole (Err r) c'
-        go (Ok p) e s = let z : ◌≡◌ {A = ℕ} 0 1 = cc in absurd (omega arith)
+        go (Ok p) e s = cc
         go (Err (pending.NoPlace k)) e s =
             let step = settle_stuck keys ends now c k e in
             let stuck : whole.stuck ≡ Some k = sym left.stuck ∙ ap (λ (s : Settled K S E). s.stuck) step in
             let q : r ≡ NoPlace k = cc in
             record { answer = ap Err q ∙ ap (λ (o : Option K). by_some o (Ok whole.lost) (λ k. Err (NoPlace k))) (sym stuck); cache = after ∙ sym (ap (λ (s : Settled K S E). s.cache) step) ∙ left.cache; few = tt }
-        go (Err (pending.Failed x)) e s = let z : ◌≡◌ {A = ℕ} 0 1 = cc in absurd (omega arith)
+        go (Err (pending.Failed x)) e s = cc

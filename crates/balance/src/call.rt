@@ -1,9 +1,7 @@
 // Sending a request to the worker that the latest poll named.
 ghost use Rattle.std.specs.Prelude.{◌≡◌};
-ghost use Rattle.balance_model.specs.Balance.{State, call, call_answer};
-ghost use Rattle.ready_cache.specs.View.{view as cache_view};
-ghost use Rattle.docket.specs.View.{view as docket_view};
-ghost use Rattle.balance.specs.View.{view, kinds, state};
+ghost use Rattle.balance_model.specs.Balance.{call, call_answer};
+ghost use Rattle.balance.specs.Steps.{kinds, state};
 
 use crate::balance::Balance;
 use balance_model::answer::CallError;
@@ -26,19 +24,15 @@ where
         request: <D::Service as Endpoint>::Request,
         at: u64,
     ) -> Result<(u64, <D::Service as Endpoint>::Response), CallError>
-        ensures answer { result ≡ call_answer (call (kinds D.Key.sameness D.Service.means D.Service.Metric.order D.feeds R.source) at (state self.old (cache_view cache.old) (docket_view docket.old)) request).answer }
-        ensures after { state self.new (cache_view cache.new) (docket_view docket.new) ≡ (call (kinds D.Key.sameness D.Service.means D.Service.Metric.order D.feeds R.source) at (state self.old (cache_view cache.old) (docket_view docket.old)) request).after }
+        ensures answer { result ≡ call_answer (call (kinds D.Key.sameness D.Service.means D.Service.Metric.order D.feeds R.source) at (state self.old cache.old docket.old) request).answer }
+        ensures after { state self.new cache.new docket.new ≡ (call (kinds D.Key.sameness D.Service.means D.Service.Metric.order D.feeds R.source) at (state self.old cache.old docket.old) request).after }
     {
         if !self.fresh {
             return Err(CallError::NotFresh);
         }
         docket.admits()?;
-        let Some(place) = self.selected else {
-            return Err(CallError::Cache(CallRefusal::NotReady));
-        };
-        let Some(entry) = cache.get_ready_index(place) else {
-            return Err(CallError::Cache(CallRefusal::NotReady));
-        };
+        let place = self.selected.ok_or(CallRefusal::NotReady)?;
+        let entry = cache.get_ready_index(place).ok_or(CallRefusal::NotReady)?;
         let response = cache.call_ready_index(place, request, at)?;
         let ticket = docket.note(entry.serial, at)?;
         self.selected = None;

@@ -1,8 +1,6 @@
 // The end of a request (tower: load/completion).
 ghost use Rattle.std.specs.Prelude.{◌≡◌};
 ghost use Rattle.balance_model.specs.Balance.{complete};
-ghost use Rattle.ready_cache.specs.View.{view as cache_view};
-ghost use Rattle.docket.specs.View.{view as docket_view};
 
 use balance_model::answer::{CompleteError, Completion};
 use docket::docket::Docket;
@@ -16,9 +14,9 @@ pub fn complete<K: Key, S: Endpoint>(
     ticket: u64,
     at: u64,
 ) -> Result<Completion, CompleteError>
-    ensures answer { result ≡ (complete S.means at (cache_view cache.old) (docket_view docket.old) ticket).answer }
-    ensures cache { cache_view cache.new ≡ (complete S.means at (cache_view cache.old) (docket_view docket.old) ticket).cache }
-    ensures docket { docket_view docket.new ≡ (complete S.means at (cache_view cache.old) (docket_view docket.old) ticket).docket }
+    ensures answer { result ≡ (complete S.means at cache.old docket.old ticket).answer }
+    ensures cache { cache.new ≡ (complete S.means at cache.old docket.old ticket).cache }
+    ensures docket { docket.new ≡ (complete S.means at cache.old docket.old ticket).docket }
 {
     let Some(record) = docket.remove(ticket) else {
         return Err(CompleteError::UnknownTicket);

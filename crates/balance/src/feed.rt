@@ -4,8 +4,7 @@ ghost use Rattle.model.specs.Options.{by_some};
 ghost use Rattle.cache_model.specs.Entries.{ready_place};
 ghost use Rattle.cache_model.specs.Cache.{evict};
 ghost use Rattle.balance_model.specs.Balance.{Read, read_one, read_feed, still_selected};
-ghost use Rattle.ready_cache.specs.View.{view as cache_view};
-ghost use Rattle.balance.specs.View.{kinds, selecting, reading, FedAs};
+ghost use Rattle.balance.specs.Steps.{kinds, selecting, reading, FedAs};
 
 use crate::balance::Balance;
 use balance_model::answer::PollError;
@@ -37,8 +36,8 @@ where
 {
     // Evicts the key, and clears the selection if the selected worker left or moved.
     fn evict(&mut self, cache: &mut ReadyCache<'_, D::Key, D::Service>, key: &D::Key)
-        ensures cache { cache_view cache.new ≡ (evict D.Key.sameness (cache_view cache.old) key.now).after }
-        ensures after { self.new ≡ selecting self.old (still_selected self.old.selected (length (cache_view cache.old).ready) (ready_place D.Key.sameness key.now (cache_view cache.old).ready)) }
+        ensures cache { cache.new ≡ (evict D.Key.sameness cache.old key.now).after }
+        ensures after { self.new ≡ selecting self.old (still_selected self.old.selected (length cache.old.ready) (ready_place D.Key.sameness key.now cache.old.ready)) }
     {
         let gone = cache.ready_index(key);
         let len = cache.ready_len();
@@ -52,13 +51,12 @@ where
         cache: &mut ReadyCache<'_, D::Key, D::Service>,
         at: u64,
     ) -> Result<bool, PollError<D::Key, D::Error>>
-        ensures answer { result ≡ (read_one D.Key.sameness D.feeds at self.old.discover self.old.selected (cache_view cache.old)).answer }
-        ensures after { self.new ≡ reading self.old (read_one D.Key.sameness D.feeds at self.old.discover self.old.selected (cache_view cache.old)) }
-        ensures cache { cache_view cache.new ≡ (read_one D.Key.sameness D.feeds at self.old.discover self.old.selected (cache_view cache.old)).cache }
+        ensures answer { result ≡ (read_one D.Key.sameness D.feeds at self.old.feed self.old.selected cache.old).answer }
+        ensures after { self.new ≡ reading self.old (read_one D.Key.sameness D.feeds at self.old.feed self.old.selected cache.old) }
+        ensures cache { cache.new ≡ (read_one D.Key.sameness D.feeds at self.old.feed self.old.selected cache.old).cache }
     {
         match self.discover.poll_discover(at) {
-            Discovered::Pending => Ok(false),
-            Discovered::End => Ok(false),
+            Discovered::Pending | Discovered::End => Ok(false),
             Discovered::Fault(error) => Err(PollError::Discover(error)),
             Discovered::Insert(key, service) => {
                 cache.push(key, service)?;
@@ -77,10 +75,9 @@ where
         cache: &mut ReadyCache<'_, D::Key, D::Service>,
         at: u64,
     ) -> Result<(), PollError<D::Key, D::Error>>
-        ensures { FedAs (read_feed (kinds D.Key.sameness D.Service.means D.Service.Metric.order D.feeds R.source) at self.old.budget self.old.discover self.old.selected (cache_view cache.old)) result self.old self.new (cache_view cache.new) }
+        ensures { FedAs (read_feed (kinds D.Key.sameness D.Service.means D.Service.Metric.order D.feeds R.source) at self.old.budget self.old.feed self.old.selected cache.old) result self.old self.new cache.new }
     {
-        let budget = self.budget;
-        for _turn in 0..budget {
+        for _turn in 0..self.budget {
             if !self.read_one(cache, at)? {
                 return Ok(());
             }

@@ -4,7 +4,6 @@
 ghost use Rattle.std.specs.Prelude.{◌≡◌};
 ghost use Rattle.rng.specs.Sources.{hasher_start};
 ghost use Rattle.balance_model.specs.Balance.{new_balancer};
-ghost use Rattle.balance.specs.View.{view};
 
 pub mod balance;
 mod call;
@@ -23,7 +22,7 @@ const MOST_ANSWERS: u32 = 4096;
 impl<D> Balance<D, HasherRng> {
     // A balancer over the feed, with words by hashing a counter.
     pub fn new(discover: D, budget: u32) -> Self
-        ensures { view result ≡ new_balancer discover hasher_start budget }
+        ensures { result ≡ new_balancer discover hasher_start budget }
     {
         Balance::from_rng(discover, HasherRng::new(), budget)
     }
@@ -32,7 +31,7 @@ impl<D> Balance<D, HasherRng> {
 impl<D, R> Balance<D, R> {
     // A balancer over the feed and the source of words; a poll reads at most `budget` answers of the feed.
     pub fn from_rng(discover: D, rng: R, budget: u32) -> Self
-        ensures { view result ≡ new_balancer discover rng budget }
+        ensures { result ≡ new_balancer discover rng budget }
     {
         Balance {
             discover,
@@ -45,14 +44,14 @@ impl<D, R> Balance<D, R> {
 
     // The place of the selected worker among the ready.
     pub fn selected(&self) -> Option<usize>
-        ensures { result ≡ (view self.now).selected }
+        ensures { result ≡ self.now.selected }
     {
         self.selected
     }
 
     // Whether the latest poll named a worker and no request was sent since.
     pub fn is_fresh(&self) -> bool
-        ensures { result ≡ (view self.now).fresh }
+        ensures { result ≡ self.now.fresh }
     {
         self.fresh
     }

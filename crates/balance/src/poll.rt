@@ -1,9 +1,8 @@
 // A poll of the balancer.
-ghost use Rattle.std.specs.Prelude.{◌≡◌, ℕ};
+ghost use Rattle.std.specs.Prelude.{◌≡◌};
 ghost use Rattle.balance_model.specs.Balance.{poll, serial_at};
 ghost use Rattle.balance_model.specs.Polls.{PollLawful};
-ghost use Rattle.ready_cache.specs.View.{view as cache_view};
-ghost use Rattle.balance.specs.View.{view, kinds};
+ghost use Rattle.balance.specs.Steps.{kinds};
 
 use crate::balance::Balance;
 use crate::search::settle;
@@ -16,15 +15,14 @@ use service::{Endpoint, Key};
 
 // The serial of the ready worker at a place, if there is a place and a worker.
 fn worker_at<K: Key, S: Endpoint>(cache: &ReadyCache<'_, K, S>, place: Option<usize>) -> Poll<u64>
-    ensures { result ≡ serial_at (cache_view cache.now) place }
+    ensures { result ≡ serial_at cache.now place }
 {
-    let Some(i) = place else {
-        return Poll::Pending;
-    };
-    match cache.get_ready_index(i) {
-        Some(entry) => Poll::Ready(entry.serial),
-        None => Poll::Pending,
+    if let Some(i) = place
+        && let Some(entry) = cache.get_ready_index(i)
+    {
+        return Poll::Ready(entry.serial);
     }
+    Poll::Pending
 }
 
 impl<D: Discover, R: Rng> Balance<D, R>
@@ -37,10 +35,10 @@ where
         cache: &mut ReadyCache<'_, D::Key, D::Service>,
         at: u64,
     ) -> Result<Polled, PollError<D::Key, D::Error>>
-        ensures answer { result ≡ (poll (kinds D.Key.sameness D.Service.means D.Service.Metric.order D.feeds R.source) at (view self.old) (cache_view cache.old)).answer }
-        ensures after { view self.new ≡ (poll (kinds D.Key.sameness D.Service.means D.Service.Metric.order D.feeds R.source) at (view self.old) (cache_view cache.old)).balancer }
-        ensures cache { cache_view cache.new ≡ (poll (kinds D.Key.sameness D.Service.means D.Service.Metric.order D.feeds R.source) at (view self.old) (cache_view cache.old)).cache }
-        ensures lawful { PollLawful D.Service.means D.Service.Metric.order at (poll (kinds D.Key.sameness D.Service.means D.Service.Metric.order D.feeds R.source) at (view self.old) (cache_view cache.old)) }
+        ensures answer { result ≡ (poll (kinds D.Key.sameness D.Service.means D.Service.Metric.order D.feeds R.source) at self.old cache.old).answer }
+        ensures after { self.new ≡ (poll (kinds D.Key.sameness D.Service.means D.Service.Metric.order D.feeds R.source) at self.old cache.old).balancer }
+        ensures cache { cache.new ≡ (poll (kinds D.Key.sameness D.Service.means D.Service.Metric.order D.feeds R.source) at self.old cache.old).cache }
+        ensures lawful { PollLawful D.Service.means D.Service.Metric.order at (poll (kinds D.Key.sameness D.Service.means D.Service.Metric.order D.feeds R.source) at self.old cache.old) }
     {
         self.fresh = false;
         self.read_feed(cache, at)?;

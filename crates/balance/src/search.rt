@@ -1,42 +1,31 @@
 // The search for a ready worker.
-ghost use Rattle.std.specs.Prelude.{◌≡◌, ℕ, ◌≤◌, Err};
+ghost use Rattle.std.specs.Prelude.{◌≡◌, ◌≤◌};
 ghost use Rattle.cache_model.specs.Cache.{poll_pending};
 ghost use Rattle.balance_model.specs.Draw.{weigh, draw};
 ghost use Rattle.balance_model.specs.Balance.{settle_all, select};
-ghost use Rattle.ready_cache.specs.View.{view as cache_view};
-ghost use Rattle.balance.specs.View.{kinds, drawn_place, loses_one, SettledAs, check_selected, lost_by, SoughtAs, with_words};
+ghost use Rattle.balance.specs.Steps.{kinds, drawn_place, loses_one, SettledAs, check_selected, lost_by, SoughtAs, with_words};
 
 use crate::balance::Balance;
 use balance_model::answer::PollError;
 use cache_model::error::PendingError;
 use discover::Discover;
+use ready_cache::MOST;
 use ready_cache::cache::ReadyCache;
 use rng::{Rng, sample_floyd2};
 use service::{Endpoint, Key, Weight};
-
-// What ended a pass early: a worker that failed and left, or no place among the ready, which ends the poll.
-fn lost_or_stuck<K: Copy, E: Copy, F: Copy>(
-    error: PendingError<K, E>,
-) -> Result<bool, PollError<K, F>>
-    ensures { result ≡ loses_one (Err error) }
-{
-    match error {
-        PendingError::NoPlace(key) => Err(PollError::NoPlace(key)),
-        PendingError::Failed(_) => Ok(true),
-    }
-}
 
 // Passes over pending once; answers whether a worker failed and left.
 fn loses_one<K: Key, S: Endpoint, F: Copy>(
     cache: &mut ReadyCache<'_, K, S>,
     at: u64,
 ) -> Result<bool, PollError<K, F>>
-    ensures answer { result ≡ loses_one (poll_pending K.sameness S.means at (cache_view cache.old)).answer }
-    ensures after { cache_view cache.new ≡ (poll_pending K.sameness S.means at (cache_view cache.old)).after }
+    ensures answer { result ≡ loses_one (poll_pending K.sameness S.means at cache.old).answer }
+    ensures after { cache.new ≡ (poll_pending K.sameness S.means at cache.old).after }
 {
     match cache.poll_pending(at) {
         Ok(_) => Ok(false),
-        Err(error) => lost_or_stuck(error),
+        Err(PendingError::Failed(_)) => Ok(true),
+        Err(PendingError::NoPlace(key)) => Err(PollError::NoPlace(key)),
     }
 }
 
@@ -45,9 +34,11 @@ pub(crate) fn settle<K: Key, S: Endpoint, F: Copy>(
     cache: &mut ReadyCache<'_, K, S>,
     at: u64,
 ) -> Result<u32, PollError<K, F>>
-    ensures { SettledAs (settle_all K.sameness S.means at (cache_view cache.old)) result (cache_view cache.new) }
+    ensures { SettledAs (settle_all K.sameness S.means at cache.old) result cache.new }
 {
-    let mut lost: u32 = 0;
+    // each pass that loses a worker leaves fewer, so the count fits
+    prove!(cache.len() <= MOST);
+    let mut lost = 0;
     while loses_one(cache, at)? {
         lost += 1;
     }
@@ -61,14 +52,17 @@ fn lighter<K: Key, S: Endpoint>(
     b: usize,
     at: u64,
 ) -> usize
-    ensures answer { result ≡ (weigh S.means S.Metric.order at (cache_view cache.old) a b).place }
-    ensures after { cache_view cache.new ≡ (weigh S.means S.Metric.order at (cache_view cache.old) a b).cache }
+    ensures answer { result ≡ (weigh S.means S.Metric.order at cache.old a b).place }
+    ensures after { cache.new ≡ (weigh S.means S.Metric.order at cache.old a b).cache }
 {
     let first = cache.load_ready_index(a, at);
     let second = cache.load_ready_index(b, at);
-    match (first, second) {
-        (Some(v), Some(w)) => { if v.not_heavier(&w) { a } else { b } }
-        _ => a,
+    if let (Some(v), Some(w)) = (first, second)
+        && !v.not_heavier(&w)
+    {
+        b
+    } else {
+        a
     }
 }
 
@@ -78,8 +72,8 @@ fn ask_selected<K: Key, S: Endpoint>(
     selected: Option<usize>,
     at: u64,
 ) -> Option<u32>
-    ensures answer { result ≡ lost_by (check_selected K.sameness S.means at (cache_view cache.old) selected).answer }
-    ensures after { cache_view cache.new ≡ (check_selected K.sameness S.means at (cache_view cache.old) selected).after }
+    ensures answer { result ≡ lost_by (check_selected K.sameness S.means at cache.old selected).answer }
+    ensures after { cache.new ≡ (check_selected K.sameness S.means at cache.old selected).after }
 {
     let Some(i) = selected else {
         return Some(0);
@@ -101,19 +95,18 @@ where
         cache: &mut ReadyCache<'_, D::Key, D::Service>,
         at: u64,
     ) -> Option<usize>
-        ensures answer { result ≡ drawn_place (cache_view cache.old) (draw D.Service.means D.Service.Metric.order at R.source (cache_view cache.old) self.old.rng) }
-        ensures after { self.new ≡ with_words self.old (draw D.Service.means D.Service.Metric.order at R.source (cache_view cache.old) self.old.rng).words }
-        ensures cache { cache_view cache.new ≡ (draw D.Service.means D.Service.Metric.order at R.source (cache_view cache.old) self.old.rng).cache }
+        ensures answer { result ≡ drawn_place cache.old (draw D.Service.means D.Service.Metric.order at R.source cache.old self.old.words) }
+        ensures after { self.new ≡ with_words self.old (draw D.Service.means D.Service.Metric.order at R.source cache.old self.old.words).words }
+        ensures cache { cache.new ≡ (draw D.Service.means D.Service.Metric.order at R.source cache.old self.old.words).cache }
     {
-        let len = cache.ready_len();
-        if len == 0 {
-            return None;
+        match cache.ready_len() {
+            0 => None,
+            1 => Some(0),
+            len => {
+                let [a, b] = sample_floyd2(&mut self.rng, len as u64);
+                Some(lighter(cache, a as usize, b as usize, at))
+            }
         }
-        if len == 1 {
-            return Some(0);
-        }
-        let [a, b] = sample_floyd2(&mut self.rng, len as u64);
-        Some(lighter(cache, a as usize, b as usize, at))
     }
 
     // Checks the selected worker and draws others until one is ready or none is left; answers its place, and how many were lost.
@@ -121,12 +114,13 @@ where
         &mut self,
         cache: &mut ReadyCache<'_, D::Key, D::Service>,
         at: u64,
-        lost: u32,
+        mut lost: u32,
     ) -> (Option<usize>, u32)
         requires { lost ≤ 4096 }
-        ensures { SoughtAs (select (kinds D.Key.sameness D.Service.means D.Service.Metric.order D.feeds R.source) at self.old.selected (cache_view cache.old) self.old.rng) lost result self.old self.new (cache_view cache.new) }
+        ensures { SoughtAs (select (kinds D.Key.sameness D.Service.means D.Service.Metric.order D.feeds R.source) at self.old.selected cache.old self.old.words) lost result self.old self.new cache.new }
     {
-        let mut lost = lost;
+        // each worker that is held is lost at most once, so the count fits
+        prove!(cache.len() <= MOST);
         let mut selected = self.selected;
         loop {
             let Some(gone) = ask_selected(cache, selected, at) else {

@@ -34,7 +34,7 @@ use Rattle.balance_model.specs.declared.answer.DocketRefusal.TheVariants as dock
 use Rattle.balance_model.specs.declared.answer.CallError.TheVariants as error
 
 no_both : {P : Type 0} → true ≡ false → P
-no_both e = let z : ◌≡◌ {A = ℕ} 0 1 = cc in absurd (omega arith)
+no_both e = cc
 
 -- what the docket refuses has the number 7 or 8
 from_seven : (r : DocketRefusal) → 7 ≤ docket_number r

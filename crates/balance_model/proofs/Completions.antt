@@ -6,6 +6,7 @@ use Rattle.model.specs.Sums.{one_if}
 use Rattle.model.proofs.Cases.{some_case}
 use Rattle.model.proofs.Totals.{total, total_swap, total_swap_le}
 use Rattle.model.proofs.Places.{each_map, each_at, each_swap, place_test}
+use Rattle.model.proofs.Std.{position_is}
 use Rattle.cache_model.specs.Cache.{Cache, finish}
 use Rattle.cache_model.proofs.Steps.{sum_held}
 use Rattle.cache_model.proofs.Serials.{is_pair}
@@ -126,7 +127,7 @@ module _ {K S Q A E W D F R : Type 0} (m : Meanings K S Q A E W D F R) (now tick
         let w = e.0 in (
           record {
             issued = w.issued;
-            out = false_or (eqb ticket x.ticket) (is_completed h x.ticket) (ne_eqb ticket x.ticket (λ p. let y : ◌≡◌ {A = Bool} true false = sym (eq-eqb x.ticket ticket (sym p)) ∙ n in let v : ◌≡◌ {A = ℕ} 0 1 = cc in omega arith)) w.out;
+            out = false_or (eqb ticket x.ticket) (is_completed h x.ticket) (ne_eqb ticket x.ticket (λ p. let y : ◌≡◌ {A = Bool} true false = sym (eq-eqb x.ticket ticket (sym p)) ∙ n in cc)) w.out;
             sent = w.sent;
             nowhere_else = w.nowhere_else;
           },
@@ -178,7 +179,7 @@ module _ {K S Q A E W D F R : Type 0} (m : Meanings K S Q A E W D F R) (now tick
       (λ i found. some_case Goal (at d.records i) _ _
       (λ _. refused_holds b c d h UnknownTicket o)
       (λ gone here.
-      let it_is : gone.ticket ≡ ticket = eqb-true gone.ticket ticket (place_test (λ s. eqb s.ticket ticket) d.records i gone found here) in
+      let it_is : gone.ticket ≡ ticket = eqb-true gone.ticket ticket (place_test (λ s. eqb s.ticket ticket) d.records i gone (sym (position_is _ d.records) ∙ found) here) in
       done_holds b c _ d h o i gone here it_is (finish_told m.keys m.endpoints now c gone.serial gone.sent) _))
     where
       Goal : CompleteOutcome K S → Type 0

@@ -128,8 +128,8 @@ module _ {K S Q A E W D F R : Type 0} (m : Meanings K S Q A E W D F R) (now : �
           by_check v found (after_these k.asked [] 0 (seek m now fuel k.after r)) (after_these k.asked [] 1 (seek m now fuel k.after r))
           ≡ by_check v found (after_these k.asked [] 0 (seek_all m now k.after r)) (after_these k.asked [] 1 (seek_all m now k.after r))
       go (Ok true) f = refl
-      go (Ok false) f = ap (after_these k.asked [] 0) (fewer (f (λ e. let z : ◌≡◌ {A = ℕ} 0 1 = cc in omega arith)))
-      go (Err x) f = ap (after_these k.asked [] 1) (fewer (f (λ e. let z : ◌≡◌ {A = ℕ} 0 1 = cc in omega arith)))
+      go (Ok false) f = ap (after_these k.asked [] 0) (fewer (f (λ e. cc)))
+      go (Err x) f = ap (after_these k.asked [] 1) (fewer (f (λ e. cc)))
 
   -- with nobody ready the search ends
   pub seek_none : (c : Cache K S) (r : R) → length c.ready ≡ 0 → seek_all m now c r ≡ record { place = None; cache = c; words = r; lost = 0; asked = []; draws = [] }

@@ -14,15 +14,15 @@ use Rattle.balance_model.specs.Balance.{Sought, after_these, try, seek, seek_all
 use Rattle.balance_model.specs.History.{said_ready}
 use Rattle.balance_model.specs.Promise.{DrawFair}
 use Rattle.balance_model.proofs.Fair.{fair}
-use Rattle.std.proofs.Common.{◌≡◌, ℕ, zero, suc, Bool, true, false, ltb, List, [], length, Some, Ok, Err, Option, Result, ap, ◌∙◌, subst, arith}
+use Rattle.std.proofs.Common.{◌≡◌, ℕ, zero, suc, Bool, true, false, ltb, List, [], length, Some, Ok, Err, Option, Result, ap, ◌∙◌, subst}
 use Rattle.std.proofs.lemmas.Bool.{ltb-false}
 use Rattle.cache_model.specs.declared.error.Failed.{Failed}
 
 not_yes : {K E : Type 0} → ◌≡◌ {A = Result Bool (Failed K E)} (Ok false) (Ok true) → ⊥
-not_yes e = let z : ◌≡◌ {A = ℕ} 0 1 = cc in omega arith
+not_yes e = cc
 
 failed_not_yes : {K E : Type 0} {x : Failed K E} → ◌≡◌ {A = Result Bool (Failed K E)} (Err x) (Ok true) → ⊥
-failed_not_yes {K} {E} {x} e = let z : ◌≡◌ {A = ℕ} 0 1 = cc in omega arith
+failed_not_yes {K} {E} {x} e = cc
 
 -- the entry at a place granted, and its question was the last of these
 pub record Grants {K S Q A E W : Type 0} (ends : Endpoints S Q A E W) (now : ℕ) (rs : List (Entry K S)) (asked : List (Question E)) (i : ℕ) : Type 0 where

@@ -39,8 +39,8 @@ module _ {K S Q A E W D F R : Type 0} (m : Meanings K S Q A E W D F R) (now : �
   try_nobody more i c r ih =
       check_case NobodyLeft (check m.keys m.endpoints now c i).answer _ _ _
       (λ _ none. absurd (no_some (sym none)))
-      (λ e. ih (λ yes_it_is. let z : ◌≡◌ {A = ℕ} 0 1 = cc in omega arith))
-      (λ x e. ih (λ yes_it_is. let z : ◌≡◌ {A = ℕ} 0 1 = cc in omega arith))
+      (λ e. ih (λ yes_it_is. cc))
+      (λ x e. ih (λ yes_it_is. cc))
 
   seek_nobody : (fuel : ℕ) (c : Cache K S) (r : R) → length c.ready ≤ fuel → NobodyLeft (seek m now fuel c r)
   seek_nobody zero c r few = λ _. none_left c.ready few

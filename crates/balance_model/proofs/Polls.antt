@@ -59,13 +59,13 @@ module _ {K S Q A E W D F R : Type 0} (m : Meanings K S Q A E W D F R) (now : �
       }
 
   true_false : {P : Type 0} → true ≡ false → P
-  true_false e = let z : ◌≡◌ {A = ℕ} 0 1 = cc in absurd (omega arith)
+  true_false e = cc
 
   false_true : {P : Type 0} → false ≡ true → P
-  false_true e = let z : ◌≡◌ {A = ℕ} 0 1 = cc in absurd (omega arith)
+  false_true e = cc
 
   not_ended : {P : Type 0} {x : PollError K F} {y : Polled} → ◌≡◌ {A = Result Polled (PollError K F)} (Err x) (Ok y) → P
-  not_ended {P} {x} {y} e = let z : ◌≡◌ {A = ℕ} 0 1 = cc in absurd (omega arith)
+  not_ended {P} {x} {y} e = cc
 
   poll_right : (b : Balancer D R) (c : Cache K S) → PollRight c (poll m now b c)
   unfolding poll
@@ -118,7 +118,7 @@ module _ {K S Q A E W D F R : Type 0} (m : Meanings K S Q A E W D F R) (now : �
           nowhere (Some i) f e =
               let g = f i refl in
               let named : serial_at sought.cache (Some i) ≡ Ready g.entry.serial = ap (λ (o : Option (Entry K S)). by_some {B = Poll ℕ} o Pending (λ x. Ready x.serial)) g.stands in
-              let z : ◌≡◌ {A = ℕ} 0 1 = cc in absurd (omega arith)
+              cc
 
   -- the laws of a poll
   pub poll_lawful : (b : Balancer D R) (c : Cache K S) → PollLawful m.endpoints m.weights now (poll m now b c)

@@ -36,7 +36,7 @@ module _ {K S Q A E W D F R : Type 0} (m : Meanings K S Q A E W D F R) where
     records = tt;
     tickets = λ t. omega arith;
     unissued = λ t above. record { out = refl; nowhere = λ x. refl };
-    fresh = λ e. let z : ◌≡◌ {A = ℕ} 0 1 = cc in absurd (omega arith);
+    fresh = λ e. cc;
     spent = λ _. inl refl;
     calls = tt;
     draws = tt;

@@ -3,43 +3,43 @@ use cache_model::error::{CallRefusal, PushError};
 use service::poll::Poll;
 
 // A poll that came to its end: the serial of the worker that it names, if one is ready, and how many workers it lost.
-#[derive(Clone, Copy)]
+#[derive(Clone, Copy, PartialEq, Eq, Debug)]
 pub struct Polled {
     pub worker: Poll<u64>,
     pub lost: u32,
 }
 
 // What ended a poll early, by its layer: a fault of the feed, a refused push, or no place among the ready for this key.
-#[derive(Clone, Copy)]
+#[derive(Clone, Copy, PartialEq, Eq, Debug)]
 pub enum PollError<K, F> {
     Discover(F),
     Push(PushError<K>),
     NoPlace(K),
 }
 
-// Why the docket takes no record.
-#[derive(Clone, Copy)]
+// Why the docket takes no record, with its number.
+#[derive(Clone, Copy, PartialEq, Eq, Debug)]
 pub enum DocketRefusal {
-    Full,
-    TicketsSpent,
+    Full = 7,
+    TicketsSpent = 8,
 }
 
 // Why a request is not sent, by its layer.
-#[derive(Clone, Copy)]
+#[derive(Clone, Copy, PartialEq, Eq, Debug)]
 pub enum CallError {
     NotFresh,
     Docket(DocketRefusal),
     Cache(CallRefusal),
 }
 
-// Why a ticket is not completed.
-#[derive(Clone, Copy)]
+// Why a ticket is not completed, with its number.
+#[derive(Clone, Copy, PartialEq, Eq, Debug)]
 pub enum CompleteError {
-    UnknownTicket,
+    UnknownTicket = 9,
 }
 
 // What a completion found: the worker is still held, or gone.
-#[derive(Clone, Copy)]
+#[derive(Clone, Copy, PartialEq, Eq, Debug)]
 pub enum Completion {
     Held,
     Gone,

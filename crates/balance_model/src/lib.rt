@@ -1,4 +1,4 @@
-// The docket, the balancer and whole runs: their records and answers, and in specs/ what each call does and what is promised of every run. No code.
+// The docket, the balancer and whole runs: their records and answers, and in specs/ what each call does and what is promised of every run.
 #![tactic(auto)]
 
 pub mod answer;

@@ -1,4 +1,5 @@
 // The number of a refusal or a fault of the balancer's calls, as programs print it.
+// Cases with contents are matched: `as` takes the number of a case without any.
 ghost use Rattle.std.specs.Prelude.{◌≡◌};
 ghost use Rattle.balance_model.specs.Answers.{poll_number, docket_number, call_error_number, complete_number};
 
@@ -22,10 +23,7 @@ impl DocketRefusal {
     pub fn number(self) -> u8
         ensures { result ≡ docket_number self }
     {
-        match self {
-            DocketRefusal::Full => 7,
-            DocketRefusal::TicketsSpent => 8,
-        }
+        self as u8
     }
 }
 
@@ -47,8 +45,6 @@ impl CompleteError {
     pub fn number(self) -> u8
         ensures { result ≡ complete_number self }
     {
-        match self {
-            CompleteError::UnknownTicket => 9,
-        }
+        self as u8
     }
 }

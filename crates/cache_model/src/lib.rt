@@ -4,4 +4,5 @@
 pub mod convert;
 pub mod entry;
 pub mod error;
+mod making;
 mod numbers;

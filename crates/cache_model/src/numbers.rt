@@ -1,18 +1,16 @@
 // The number of a refusal or a fault of the cache, as programs print it.
+// Cases with contents are matched: `as` takes the number of a case without any.
 ghost use Rattle.std.specs.Prelude.{◌≡◌};
 ghost use Rattle.cache_model.specs.Answers.{push_number, call_number, pending_number};
 
-use crate::error::{CallRefusal, PendingError, PushError, PushRefusal};
+use crate::error::{CallRefusal, PendingError, PushError};
 
 impl<K: Copy> PushError<K> {
     // The number of the refusal.
     pub fn number(&self) -> u8
         ensures { result ≡ push_number self.now }
     {
-        match self.refusal {
-            PushRefusal::Full => 1,
-            PushRefusal::SerialsSpent => 2,
-        }
+        self.refusal as u8
     }
 }
 
@@ -21,11 +19,7 @@ impl CallRefusal {
     pub fn number(self) -> u8
         ensures { result ≡ call_number self }
     {
-        match self {
-            CallRefusal::NotReady => 3,
-            CallRefusal::NoGrant => 4,
-            CallRefusal::AtCeiling => 5,
-        }
+        self as u8
     }
 }
 

@@ -2,9 +2,10 @@
 use cache_model::entry::Entry;
 use decay::halving::Halving;
 use keys::name::Name;
-use lists::filled;
 use load::pending_requests::PendingRequests;
+use memory::Memory;
 use peak_ewma::peak_ewma::PeakEwma;
+use peak_ewma::settings::Settings;
 use ready_cache::cache::ReadyCache;
 use service::{Endpoint, Key};
 use std::alloc::Global;
@@ -42,18 +43,14 @@ fn names() -> Result<Keys<Name>, Fail> {
 
 // The serial and the count of the ready worker of a key.
 fn ready_worker<K: Key, S: Endpoint>(cache: &ReadyCache<'_, K, S>, key: &K) -> Option<(u64, u32)> {
-    match cache.get_ready(key) {
-        Some(entry) => Some((entry.serial, entry.endpoint.count())),
-        None => None,
-    }
+    cache
+        .get_ready(key)
+        .map(|entry| (entry.serial, entry.endpoint.count()))
 }
 
 // Whether the ready worker of a key still is ready.
 fn is_ready<K: Key, S: Endpoint>(cache: &mut ReadyCache<'_, K, S>, key: &K, at: u64) -> bool {
-    match cache.check_ready(key, at) {
-        Ok(ready) => ready,
-        Err(_) => false,
-    }
+    cache.check_ready(key, at).unwrap_or(false)
 }
 
 // A worker is pushed, asked, sent a request, is busy until 6, and is asked again.
@@ -127,15 +124,12 @@ fn walk<K: Key, S: Endpoint>(
     worker: S,
     request: S::Request,
 ) -> Result<(), Fail> {
-    let blank = Entry {
-        key: keys.two,
-        endpoint: worker,
-        serial: 0,
-        cancelled: false,
-    };
-    let mut ready = filled(heap, blank, 4)?;
-    let mut pending = filled(heap, blank, 4)?;
-    let mut cache = ReadyCache::new(ready.as_mut_slice(), pending.as_mut_slice(), 7);
+    let mut memory = Memory::new(heap, Entry::new(keys.two, worker, 0), 4, 0)?;
+    let mut cache = ReadyCache::new(
+        memory.ready.as_mut_slice(),
+        memory.pending.as_mut_slice(),
+        7,
+    );
     send_and_finish(rt, &mut cache, keys.one, worker, request);
     supersede(rt, &mut cache, keys, worker);
     withdraw(rt, &mut cache, keys, worker);
@@ -147,7 +141,12 @@ fn patterned() -> Result<Patterned, Fail> {
 }
 
 fn by_time<S: Copy>(service: S) -> Result<PeakEwma<S, Halving>, Fail> {
-    Ok(PeakEwma::new(service, Halving, SECOND, SECOND, 0)?)
+    let settings = Settings {
+        decay: Halving,
+        default_rtt: SECOND,
+        decay_period: SECOND,
+    };
+    Ok(PeakEwma::new(service, settings, 0)?)
 }
 
 #[test]

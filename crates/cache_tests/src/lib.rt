@@ -4,4 +4,4 @@
 #[cfg(test)]
 mod kinds;
 #[cfg(test)]
-mod memory;
+mod sizes;

@@ -13,205 +13,186 @@ use discover::Discover;
 use discover::discovered::Discovered;
 use discover::list_feed::ListFeed;
 use docket::docket::Docket;
-use lists::filled;
 use load::pending_requests::PendingRequests;
+use memory::Memory;
 use peak_ewma::peak_ewma::PeakEwma;
 use peak_ewma::peak_ewma_discover::PeakEwmaDiscover;
+use peak_ewma::settings::Settings;
 use ready_cache::cache::ReadyCache;
 use repeated::Repeated;
 use rng::Rng;
 use rng::hasher_rng::HasherRng;
 use service::poll::Poll;
 use service::{Endpoint, Service};
-use std::alloc::{AllocError, Global};
+use std::alloc::Global;
 use std::mem::size_of;
+use std::num::NonZeroU32;
 use workers::answer::Answer;
 use workers::patterned::Patterned;
 
 // The nanoseconds from one cycle to the next.
 const STEP: u64 = 1_000;
 
-const DEFAULT_RTT: u64 = 1_000_000_000;
+// How response time is estimated.
+const SETTINGS: Settings<Squaring> = Settings {
+    decay: Squaring,
+    default_rtt: 1_000_000_000,
+    decay_period: 10_000_000_000,
+};
 
-const DECAY_PERIOD: u64 = 10_000_000_000;
-
-// How many workers, of which each so-manieth is never ready; in each so-manieth cycle one leaves and comes back; cycles; tickets that stay out. None is 0.
+// How many workers, of which each so-manieth is never ready; in each so-manieth cycle one leaves and comes back; cycles; tickets that stay out.
 #[derive(Clone, Copy)]
-pub struct Shape {
-    pub workers: u32,
-    pub unready: u32,
-    pub turnover: u32,
-    pub cycles: u32,
-    pub out: u32,
+struct Shape {
+    workers: u32,
+    unready: Option<NonZeroU32>,
+    turnover: Option<NonZeroU32>,
+    cycles: u32,
+    out: u32,
 }
 
-// Whether a number is a multiple of another; of 0, none is.
-fn falls_on(number: u32, of: u32) -> bool {
-    of > 0 && number % of == 0
-}
-
-// The service of a key.
-fn service(key: u32, shape: Shape) -> Option<Patterned> {
-    let pattern = if falls_on(key, shape.unready) {
-        Answer::Pending
-    } else {
-        Answer::Ready
-    };
-    Patterned::new(&[pattern]).ok()
-}
-
-// The answers of the feed: first all workers.
-fn arrivals(
-    heap: Global,
-    shape: Shape,
-) -> Result<Vec<Discovered<u32, Patterned, u32>>, AllocError> {
-    let mut answers = Vec::new(heap);
-    for key in 0..shape.workers {
-        if let Some(worker) = service(key, shape) {
-            answers.push(Discovered::Insert(key, worker))?;
+impl Shape {
+    // The shape of the C interface's numbers, which have 0 for none.
+    fn new(workers: u32, unready: u32, turnover: u32, cycles: u32, out: u32) -> Self {
+        Shape {
+            workers,
+            unready: NonZeroU32::new(unready),
+            turnover: NonZeroU32::new(turnover),
+            cycles,
+            out,
         }
     }
-    Ok(answers)
+
+    // The service of a key.
+    fn service(&self, key: u32) -> Option<Patterned> {
+        let answer = if self.unready.is_some_and(|every| key % every == 0) {
+            Answer::Pending
+        } else {
+            Answer::Ready
+        };
+        Patterned::new(&[answer]).ok()
+    }
+
+    // The answers of the feed: first all workers.
+    fn arrivals(&self, heap: Global) -> Option<Answers<Patterned>> {
+        let mut answers = Vec::new(heap);
+        for key in 0..self.workers {
+            let service = self.service(key)?;
+            answers.push(Discovered::Insert(key, service)).ok()?;
+        }
+        Some(answers)
+    }
+
+    // And then, over and over, those that leave and come back.
+    fn turnover(&self, heap: Global) -> Option<Answers<Patterned>> {
+        let mut answers = Vec::new(heap);
+        let Some(every) = self.turnover else {
+            return Some(answers);
+        };
+        for cycle in 0..every.get().saturating_mul(self.workers) {
+            let key = cycle % self.workers.max(1);
+            if cycle % every == 0 {
+                let service = self.service(key)?;
+                answers.push(Discovered::Remove(key)).ok()?;
+                answers.push(Discovered::Insert(key, service)).ok()?;
+            }
+            answers.push(Discovered::Pending).ok()?;
+        }
+        Some(answers)
+    }
 }
 
-// And then, over and over, those that leave and come back.
-fn turnover(
-    heap: Global,
-    shape: Shape,
-) -> Result<Vec<Discovered<u32, Patterned, u32>>, AllocError> {
-    let mut answers = Vec::new(heap);
-    for cycle in 0..shape.turnover.saturating_mul(shape.workers) {
-        let key = cycle % shape.workers.max(1);
-        if falls_on(cycle, shape.turnover)
-            && let Some(worker) = service(key, shape)
-        {
-            answers.push(Discovered::Remove(key))?;
-            answers.push(Discovered::Insert(key, worker))?;
-        }
-        answers.push(Discovered::Pending)?;
-    }
-    Ok(answers)
-}
+// Answers of the feed.
+type Answers<S> = Vec<Discovered<u32, S, u32>>;
 
 // The same with workers weighed by requests out.
-fn counted_feed(
+fn counted(
     heap: Global,
-    bare: &[Discovered<u32, Patterned, u32>],
-) -> Result<Vec<Discovered<u32, PendingRequests<Patterned>, u32>>, AllocError> {
-    let mut answers = Vec::new(heap);
-    for answer in bare {
-        answers.push(match *answer {
-            Discovered::Pending => Discovered::Pending,
-            Discovered::End => Discovered::End,
-            Discovered::Fault(error) => Discovered::Fault(error),
-            Discovered::Insert(key, service) => Discovered::Insert(
-                key,
-                PendingRequests::new(service),
-            ),
-            Discovered::Remove(key) => Discovered::Remove(key),
-        })?;
-    }
-    Ok(answers)
+    answers: Answers<Patterned>,
+) -> Option<Answers<PendingRequests<Patterned>>> {
+    answers
+        .into_iter()
+        .map(|answer| answer.map(PendingRequests::new))
+        .collect(heap)
+        .ok()
 }
 
-// One cycle: a poll, a call, and the completion of the ticket that was given `late` calls before. Answers the serial that was named, and the response.
+// A feed of the first answers, and then of the round's, over and over.
+fn feed_of<'a, S: Copy>(
+    first: &'a [Discovered<u32, S, u32>],
+    round: &'a [Discovered<u32, S, u32>],
+) -> Repeated<ListFeed<'a, u32, S, u32>> {
+    Repeated {
+        round: ListFeed::new(round),
+        rest: ListFeed::new(first),
+    }
+}
+
+// One cycle: a poll, a call, and the completion of the ticket that was given `late` calls before. Answers the serial that was named and the response, added up, or none where nobody was named or the request was refused.
 fn cycle<D, R>(
     balance: &mut Balance<D, R>,
     cache: &mut ReadyCache<'_, u32, D::Service>,
     docket: &mut Docket<'_>,
-    late: u64,
+    late: u32,
     at: u64,
-) -> u64
+) -> Option<u64>
 where
     D: Discover<Key = u32, Error = u32>,
     R: Rng,
     D::Service: Endpoint<Request = u32, Response = u64>,
 {
-    let named = match balance.poll_ready(cache, at) {
-        Ok(polled) => match polled.worker {
-            Poll::Ready(serial) => serial,
-            Poll::Pending => 0,
-        },
-        Err(_) => 0,
+    let Poll::Ready(serial) = balance.poll_ready(cache, at).ok()?.worker else {
+        return None;
     };
-    let Ok((ticket, response)) = balance.call(cache, docket, 0, at) else {
-        return 0;
-    };
-    let _ = complete(cache, docket, ticket.saturating_sub(late), at);
-    named.wrapping_add(response)
+    let (ticket, response) = balance.call(cache, docket, 0, at).ok()?;
+    let _ = complete(cache, docket, ticket.saturating_sub(u64::from(late)), at);
+    Some(serial.wrapping_add(response))
 }
 
 // All cycles, over a feed, in memory that is blank at first; answers the sum of what they answer.
-fn run<D>(heap: Global, feed: D, blank: D::Service, shape: Shape) -> Result<u64, AllocError>
+fn run<D>(heap: Global, feed: D, blank: D::Service, shape: Shape) -> Option<u64>
 where
     D: Discover<Key = u32, Error = u32> + Drop,
     D::Service: Endpoint<Request = u32, Response = u64>,
 {
-    let entry = Entry {
-        key: 0,
-        endpoint: blank,
-        serial: 0,
-        cancelled: false,
-    };
-    let record = DocketRecord {
-        ticket: 0,
-        serial: 0,
-        sent: 0,
-    };
-    let room = shape.workers.saturating_mul(2).saturating_add(2) as usize;
-    let mut ready = filled(heap, entry, room)?;
-    let mut pending = filled(heap, entry, room)?;
-    let mut records = filled(heap, record, shape.out.saturating_add(1) as usize)?;
-    let mut cache = ReadyCache::new(ready.as_mut_slice(), pending.as_mut_slice(), 1);
-    let mut docket = Docket::new(records.as_mut_slice(), 1);
+    let workers = shape.workers.saturating_mul(2).saturating_add(2) as usize;
+    let requests = shape.out.saturating_add(1) as usize;
+    let mut memory = Memory::new(heap, Entry::new(0, blank, 0), workers, requests).ok()?;
+    let mut cache = ReadyCache::new(
+        memory.ready.as_mut_slice(),
+        memory.pending.as_mut_slice(),
+        1,
+    );
+    let mut docket = Docket::new(memory.records.as_mut_slice(), 1);
     let mut balance = Balance::from_rng(feed, HasherRng::new(), 4096);
     let mut sum: u64 = 0;
     for i in 0..shape.cycles {
         let at = u64::from(i) * STEP;
-        let answer = cycle(
-            &mut balance,
-            &mut cache,
-            &mut docket,
-            u64::from(shape.out),
-            at,
-        );
-        sum = sum.wrapping_add(answer);
+        if let Some(answer) = cycle(&mut balance, &mut cache, &mut docket, shape.out, at) {
+            sum = sum.wrapping_add(answer);
+        }
     }
-    Ok(sum)
+    Some(sum)
 }
 
-fn run_counted(
-    heap: Global,
-    shape: Shape,
-    blank: PendingRequests<Patterned>,
-) -> Result<u64, AllocError> {
-    let first = counted_feed(heap, arrivals(heap, shape)?.as_slice())?;
-    let round = counted_feed(heap, turnover(heap, shape)?.as_slice())?;
-    let feed = Repeated {
-        round: ListFeed::new(round.as_slice()),
-        rest: ListFeed::new(first.as_slice()),
-    };
+// (Each chains its own feed: in one over a closure, what `map` asks of it was left to prove.)
+fn run_counted(heap: Global, shape: Shape) -> Option<u64> {
+    let first = counted(heap, shape.arrivals(heap)?)?;
+    let round = counted(heap, shape.turnover(heap)?)?;
+    let feed = feed_of(first.as_slice(), round.as_slice());
+    let blank = PendingRequests::new(Patterned::new(&[]).ok()?);
     run(heap, feed, blank, shape)
 }
 
-fn run_timed(
-    heap: Global,
-    shape: Shape,
-    blank: PeakEwma<Patterned, Squaring>,
-) -> Result<u64, AllocError> {
-    let first = arrivals(heap, shape)?;
-    let round = turnover(heap, shape)?;
-    let feed = Repeated {
-        round: ListFeed::new(round.as_slice()),
-        rest: ListFeed::new(first.as_slice()),
-    };
-    let Ok(feed) = PeakEwmaDiscover::new(feed, Squaring, DEFAULT_RTT, DECAY_PERIOD) else {
-        return Ok(0);
-    };
+fn run_timed(heap: Global, shape: Shape) -> Option<u64> {
+    let first = shape.arrivals(heap)?;
+    let round = shape.turnover(heap)?;
+    let feed = feed_of(first.as_slice(), round.as_slice());
+    let feed = PeakEwmaDiscover::new(feed, SETTINGS).ok()?;
+    let blank = PeakEwma::new(Patterned::new(&[]).ok()?, SETTINGS, 0).ok()?;
     run(heap, feed, blank, shape)
 }
 
-// Cycles with workers weighed by requests out; answers a sum over all of them, and 0 where there is no memory.
+// Cycles with workers weighed by requests out; answers a sum over all of them, and 0 where there is no memory. (Two exported names, as C calls them.)
 #[unsafe(no_mangle)]
 pub extern "C" fn cycles_by_count(
     heap: Global,
@@ -221,21 +202,7 @@ pub extern "C" fn cycles_by_count(
     cycles: u32,
     out: u32,
 ) -> u64 {
-    let Ok(service) = Patterned::new(&[]) else {
-        return 0;
-    };
-    run_counted(
-        heap,
-        Shape {
-            workers,
-            unready,
-            turnover,
-            cycles,
-            out,
-        },
-        PendingRequests::new(service),
-    )
-    .unwrap_or(0)
+    run_counted(heap, Shape::new(workers, unready, turnover, cycles, out)).unwrap_or(0)
 }
 
 // The same with workers weighed by response time.
@@ -248,27 +215,10 @@ pub extern "C" fn cycles_by_time(
     cycles: u32,
     out: u32,
 ) -> u64 {
-    let Ok(service) = Patterned::new(&[]) else {
-        return 0;
-    };
-    let Ok(blank) = PeakEwma::new(service, Squaring, DEFAULT_RTT, DECAY_PERIOD, 0) else {
-        return 0;
-    };
-    run_timed(
-        heap,
-        Shape {
-            workers,
-            unready,
-            turnover,
-            cycles,
-            out,
-        },
-        blank,
-    )
-    .unwrap_or(0)
+    run_timed(heap, Shape::new(workers, unready, turnover, cycles, out)).unwrap_or(0)
 }
 
-// The bytes of an entry weighed by requests out.
+// Bytes, each under the name that C calls. Of an entry weighed by requests out.
 #[unsafe(no_mangle)]
 pub extern "C" fn counted_entry_bytes() -> usize {
     size_of::<Entry<u32, PendingRequests<Patterned>>>()

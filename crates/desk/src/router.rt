@@ -1,8 +1,7 @@
 // Two routers over the same week: one weighs workers by requests out, the other by response time.
 use crate::tickets::{Ticket, tickets};
 use crate::week;
-use anyhow::anyhow;
-use balance_model::docket_record::DocketRecord;
+use anyhow::Context;
 use balance_model::pick::Pick;
 use cache_model::entry::Entry;
 use decay::halving::Halving;
@@ -10,23 +9,22 @@ use discover::Discover;
 use discover::discovered::Discovered;
 use discover::list_feed::ListFeed;
 use keys::name::Name;
-use lists::filled;
 use load::pending_requests::PendingRequests;
+use memory::Memory;
 use peak_ewma::peak_ewma::PeakEwma;
 use peak_ewma::peak_ewma_discover::PeakEwmaDiscover;
+use peak_ewma::settings::Settings;
 use rng::hasher_rng::HasherRng;
 use runs::run;
 use service::Endpoint;
 use std::alloc::Global;
 use std::convert::Infallible;
+use std::iter::repeat_n;
 use workers::paced::Paced;
 
 // A key, or the fault that its text is no name.
 fn name(text: &str) -> anyhow::Result<Name> {
-    match Name::new(text.as_bytes()) {
-        Ok(name) => Ok(name),
-        Err(_) => Err(anyhow!("not a name")),
-    }
+    Name::new(text.as_bytes()).ok().context("not a name")
 }
 
 // What a router is told of its workers: all of Monday's at first, and on Thursday some go and others come.
@@ -35,9 +33,7 @@ fn feed<S: Copy>(heap: Global, worker: S) -> anyhow::Result<Vec<Discovered<Name,
     for text in week::WORKERS {
         answers.push(Discovered::Insert(name(text)?, worker))?;
     }
-    for _ in 0..3 * week::PER_DAY {
-        answers.push(Discovered::Pending)?;
-    }
+    answers.extend(repeat_n(Discovered::Pending, 3 * week::PER_DAY))?;
     for text in week::WITHDRAWN {
         answers.push(Discovered::Remove(name(text)?))?;
     }
@@ -50,25 +46,20 @@ fn feed<S: Copy>(heap: Global, worker: S) -> anyhow::Result<Vec<Discovered<Name,
 // The week's picks: each request is polled for and called, and the ticket of three requests before is completed; the last ones stay out.
 pub fn picks(heap: Global) -> anyhow::Result<Vec<Pick<u64>>> {
     let mut picks = Vec::new(heap);
-    let mut opening: u64 = 0;
-    let mut sent: u64 = 0;
-    for _day in week::DAYS {
-        for i in 0..week::PER_DAY {
-            let request = week::request_at(opening, i);
-            picks.push(Pick::Poll { at: request.at })?;
-            picks.push(Pick::Call {
-                request: request.takes,
-                at: request.at,
+    let requests = (0..week::DAYS).flat_map(|day| week::requests(day * week::DAY_LENGTH));
+    for (ticket, request) in (1u64..).zip(requests) {
+        let at = request.at;
+        picks.push(Pick::Poll { at })?;
+        picks.push(Pick::Call {
+            request: request.takes,
+            at,
+        })?;
+        if ticket > 3 {
+            picks.push(Pick::Complete {
+                ticket: ticket - 3,
+                at,
             })?;
-            sent = sent.saturating_add(1);
-            if sent > 3 {
-                picks.push(Pick::Complete {
-                    ticket: sent - 3,
-                    at: request.at,
-                })?;
-            }
         }
-        opening = opening.saturating_add(week::DAY_LENGTH);
     }
     Ok(picks)
 }
@@ -88,25 +79,13 @@ fn tickets_of<D: Discover<Key = Name, Error = Infallible> + Drop>(
 where
     D::Service: Endpoint<Request = u64, Response = u64>,
 {
-    let entry = Entry {
-        key: name("none")?,
-        endpoint: filler,
-        serial: 0,
-        cancelled: true,
-    };
-    let record = DocketRecord {
-        ticket: 0,
-        serial: 0,
-        sent: 0,
-    };
-    let mut ready = filled(heap, entry, WORKERS)?;
-    let mut pending = filled(heap, entry, WORKERS)?;
-    let mut records = filled(heap, record, REQUESTS)?;
+    let blank = Entry::new(name("none")?, filler, 0);
+    let mut memory = Memory::new(heap, blank, WORKERS, REQUESTS)?;
     let ran = run(
         heap,
-        ready.as_mut_slice(),
-        pending.as_mut_slice(),
-        records.as_mut_slice(),
+        memory.ready.as_mut_slice(),
+        memory.pending.as_mut_slice(),
+        memory.records.as_mut_slice(),
         discover,
         HasherRng::new(),
         16,
@@ -124,19 +103,21 @@ pub fn quotes(heap: Global, picks: &[Pick<u64>]) -> anyhow::Result<Vec<Ticket>> 
     tickets_of(heap, ListFeed::new(answers.as_slice()), worker, picks)
 }
 
-// Revaluation, weighed by response time: a minute at first, halved with each whole minute that passes.
+// How the response times of revaluation are estimated: a minute at first, halved with each whole minute that passes.
+const SETTINGS: Settings<Halving> = Settings {
+    decay: Halving,
+    default_rtt: week::MINUTE,
+    decay_period: week::MINUTE,
+};
+
+// Revaluation, weighed by response time.
 pub fn revaluation(heap: Global, picks: &[Pick<u64>]) -> anyhow::Result<Vec<Ticket>> {
     let answers = feed(heap, Paced::new())?;
-    let Ok(discover) = PeakEwmaDiscover::new(
-        ListFeed::new(answers.as_slice()),
-        Halving,
-        week::MINUTE,
-        week::MINUTE,
-    ) else {
-        return Err(anyhow!("a duration is zero"));
-    };
-    let Ok(filler) = PeakEwma::new(Paced::new(), Halving, week::MINUTE, week::MINUTE, 0) else {
-        return Err(anyhow!("a duration is zero"));
-    };
+    let discover = PeakEwmaDiscover::new(ListFeed::new(answers.as_slice()), SETTINGS)
+        .ok()
+        .context("a duration is zero")?;
+    let filler = PeakEwma::new(Paced::new(), SETTINGS, 0)
+        .ok()
+        .context("a duration is zero")?;
     tickets_of(heap, discover, filler, picks)
 }

@@ -1,35 +1,41 @@
 // The tickets of a run, read off its picks and answers.
+use crate::week;
 use balance_model::answer::Completion;
 use balance_model::pick::{Answer, Pick};
 use service::poll::Poll;
 use std::alloc::{AllocError, Global};
+use std::fmt;
 
-// How a request stands at the week's end.
-#[derive(Clone, Copy)]
-pub enum Standing {
-    Out,
-    Held,
-    Gone,
-}
-
+// A request that was sent, and what its completion found, if it was completed by the week's end.
 #[derive(Clone, Copy)]
 pub struct Ticket {
     pub number: u64,
     pub at: u64,
     pub serial: u64,
     pub response: u64,
-    pub standing: Standing,
+    pub completion: Option<Completion>,
+}
+
+// One line; instants and responses in whole seconds.
+impl fmt::Display for Ticket {
+    fn fmt<W: fmt::Write>(&self, f: &mut fmt::Formatter<W>) -> fmt::Result {
+        let number = self.number;
+        let at = self.at / week::SECOND;
+        let name = week::worker(self.serial);
+        let response = self.response / week::SECOND;
+        let end = match self.completion {
+            None => "out",
+            Some(Completion::Held) => "held",
+            Some(Completion::Gone) => "gone",
+        };
+        write!(f, "{number:>3} {at:>7} {name:<6} {response:>8} {end:<4}")
+    }
 }
 
 // Notes that a ticket was completed.
-fn close(tickets: &mut Vec<Ticket>, number: u64, found: Completion) {
-    for ticket in tickets.iter_mut() {
-        if ticket.number == number {
-            ticket.standing = match found {
-                Completion::Held => Standing::Held,
-                Completion::Gone => Standing::Gone,
-            };
-        }
+fn close(tickets: &mut [Ticket], number: u64, found: Completion) {
+    if let Some(ticket) = tickets.iter_mut().find(|ticket| ticket.number == number) {
+        ticket.completion = Some(found);
     }
 }
 
@@ -40,29 +46,27 @@ pub fn tickets<K: Copy, F: Copy>(
     answers: &[Answer<K, u64, F>],
 ) -> Result<Vec<Ticket>, AllocError> {
     let mut tickets = Vec::new(heap);
-    let mut named = 0;
-    for (pick, answer) in picks.iter().zip(answers.iter()) {
-        match (*pick, *answer) {
-            (_, Answer::Polled(Ok(polled))) => {
-                if let Poll::Ready(serial) = polled.worker {
-                    named = serial;
-                }
+    let mut named = None;
+    for (pick, answer) in picks.iter().zip(answers) {
+        match (*pick, *answer, named) {
+            (_, Answer::Polled(Ok(polled)), _) => {
+                named = match polled.worker {
+                    Poll::Ready(serial) => Some(serial),
+                    Poll::Pending => None,
+                };
             }
-            (Pick::Call { request: _, at }, Answer::Called(Ok((number, response)))) => {
-                let ticket = Ticket {
+            (Pick::Call { at, .. }, Answer::Called(Ok((number, response))), Some(serial)) => {
+                tickets.push(Ticket {
                     number,
                     at,
-                    serial: named,
+                    serial,
                     response,
-                    standing: Standing::Out,
-                };
-                tickets.push(ticket)?;
+                    completion: None,
+                })?;
             }
-            (Pick::Complete { ticket, at: _ }, Answer::Completed(Ok(found))) => close(
-                &mut tickets,
-                ticket,
-                found,
-            ),
+            (Pick::Complete { ticket, .. }, Answer::Completed(Ok(found)), _) => {
+                close(tickets.as_mut_slice(), ticket, found)
+            }
             _ => {}
         }
     }
@@ -70,7 +74,7 @@ pub fn tickets<K: Copy, F: Copy>(
 }
 
 // What a worker did: requests sent to it, completed, still out, and over when it was gone.
-#[derive(Clone, Copy)]
+#[derive(Clone, Copy, Default)]
 pub struct Tally {
     pub sent: u32,
     pub completed: u32,
@@ -78,23 +82,34 @@ pub struct Tally {
     pub lost: u32,
 }
 
-// The tally of the worker with this serial.
-pub fn tally_of(tickets: &[Ticket], serial: u64) -> Tally {
-    let mut tally = Tally {
-        sent: 0,
-        completed: 0,
-        out: 0,
-        lost: 0,
-    };
-    for ticket in tickets {
-        if ticket.serial == serial {
-            tally.sent = tally.sent.saturating_add(1);
-            match ticket.standing {
-                Standing::Out => tally.out = tally.out.saturating_add(1),
-                Standing::Held => tally.completed = tally.completed.saturating_add(1),
-                Standing::Gone => tally.lost = tally.lost.saturating_add(1),
-            }
-        }
+impl Tally {
+    // The tally of the worker with this serial.
+    pub fn of(tickets: &[Ticket], serial: u64) -> Tally {
+        tickets.iter().filter(|ticket| ticket.serial == serial).fold(
+            Tally::default(),
+            |tally, ticket| tally.and(ticket.completion),
+        )
     }
-    tally
+
+    // The tally with one more request, of which this was found.
+    fn and(self, completion: Option<Completion>) -> Tally {
+        let mut tally = self;
+        tally.sent = tally.sent.saturating_add(1);
+        match completion {
+            None => tally.out = tally.out.saturating_add(1),
+            Some(Completion::Held) => tally.completed = tally.completed.saturating_add(1),
+            Some(Completion::Gone) => tally.lost = tally.lost.saturating_add(1),
+        }
+        tally
+    }
+}
+
+impl fmt::Display for Tally {
+    fn fmt<W: fmt::Write>(&self, f: &mut fmt::Formatter<W>) -> fmt::Result {
+        let sent = self.sent;
+        let completed = self.completed;
+        let out = self.out;
+        let lost = self.lost;
+        write!(f, "{sent:>4} {completed:>9} {out:>9} {lost:>4}")
+    }
 }

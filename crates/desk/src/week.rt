@@ -1,4 +1,5 @@
 // The desk's week: its requests, its workers, and who comes and goes.
+use std::fmt;
 
 // One nanosecond times this is a second.
 pub const SECOND: u64 = 1_000_000_000;
@@ -14,8 +15,19 @@ pub struct Request {
     pub takes: u64,
 }
 
+// The minute, the broker, the bond, and the seconds that pricing takes.
+impl fmt::Display for Request {
+    fn fmt<W: fmt::Write>(&self, f: &mut fmt::Formatter<W>) -> fmt::Result {
+        let minute = self.at / MINUTE;
+        let broker = self.broker;
+        let bond = self.bond;
+        let takes = self.takes / SECOND;
+        write!(f, "{minute:>3} {broker:<6} {bond:<10} {takes:>4}")
+    }
+}
+
 // The bonds that a day's brokers ask for, with the minutes after opening and the seconds that pricing takes.
-const DAY: [(&str, &str, u64, u64); 8] = [
+const DAY: [(&str, &str, u64, u64); PER_DAY] = [
     ("Adams", "WATER-31", 0, 40),
     ("Baker", "ROADS-28", 1, 90),
     ("Clark", "SCHOOL-40", 2, 30),
@@ -26,23 +38,23 @@ const DAY: [(&str, &str, u64, u64); 8] = [
     ("Clark", "PORT-33", 6, 75),
 ];
 
-pub const DAYS: [&str; 5] = ["Monday", "Tuesday", "Wednesday", "Thursday", "Friday"];
-
 // Requests of a day.
 pub const PER_DAY: usize = 8;
+
+// Monday to Friday.
+pub const DAYS: u64 = 5;
 
 // Instants of a week count from Monday's opening; a day is a thousand minutes.
 pub const DAY_LENGTH: u64 = 1_000 * MINUTE;
 
-// The request number `i` of a day that opens at `opening`.
-pub fn request_at(opening: u64, i: usize) -> Request {
-    let (broker, bond, minute, seconds) = DAY[i % PER_DAY];
-    Request {
+// The requests of a day that opens at `opening`.
+pub fn requests(opening: u64) -> [Request; PER_DAY] {
+    DAY.map(|(broker, bond, minute, seconds)| Request {
         broker,
         bond,
         at: opening.saturating_add(minute.saturating_mul(MINUTE)),
         takes: seconds.saturating_mul(SECOND),
-    }
+    })
 }
 
 // The workers of Monday.
@@ -52,3 +64,14 @@ pub const WORKERS: [&str; 8] = ["lon1", "lon2", "ny1", "ny2", "par1", "fra1", "t
 pub const WITHDRAWN: [&str; 2] = ["lon1", "tok1"];
 
 pub const ADDED: [&str; 2] = ["lon3", "sin1"];
+
+// How many workers there are in a week, which is the last serial.
+pub const SERIALS: u64 = 10;
+
+// The name of the worker with a serial: serials are given in the order of the feed, from 1.
+pub fn worker(serial: u64) -> &'static str {
+    (1u64..)
+        .zip(WORKERS.into_iter().chain(ADDED))
+        .find(|(given, _)| *given == serial)
+        .map_or("none", |(_, name)| name)
+}

@@ -1,8 +1,9 @@
 -- The answers of a feed from a list, by their number.
-use Rattle.std.proofs.Common.{◌≡◌, ℕ, zero, suc, ◌+◌, ◌<◌, ◌≤◌, cond, ltb, ◌⊎◌, List, length, get_or, sym, ap, ◌∙◌, inl, inr, zero-add, arith, Bor}
-use Rattle.std.proofs.lemmas.Bool.{lt-ltb, le-ltb, cases_lt, cond-true, cond-false}
+use Rattle.std.proofs.Common.{◌≡◌, ℕ, zero, suc, ◌+◌, ◌<◌, ◌≤◌, cond, ltb, ◌⊎◌, List, length, sym, ap, ◌∙◌, inl, inr, zero-add, arith, Bor}
+use Rattle.std.proofs.lemmas.Bool.{cases_lt}
+use Rattle.std.proofs.lemmas.Bool.Decides.{nat_tests}
 use Rattle.model.specs.Options.{by_some}
-use Rattle.model.proofs.Lists.{at_getD, at_past}
+use Rattle.model.proofs.Lists.{at_past}
 use Rattle.discover.specs.declared.discovered.Discovered.{Discovered}
 use Rattle.discover.specs.declared.discovered.Discovered.TheVariants.{End}
 use Rattle.discover.specs.declared.list_feed.ListFeed.{ListFeed}
@@ -11,16 +12,13 @@ use Rattle.discover.specs.ListFeeds.{in_list, list_feeds}
 
 -- the place after one, up to the length n
 on_from : (n i : ℕ) → i < n → i + 1 ≡ cond (ltb i n) (i + 1) i
-on_from n i h = sym (cond-true (ltb i n) _ _ (lt-ltb i n h))
+on_from n i h = grind (arith, nat_tests)
 
 stays_at : (n i : ℕ) → n ≤ i → i ≡ cond (ltb i n) (i + 1) i
-stays_at n i h = sym (cond-false (ltb i n) _ _ (le-ltb i n h))
+stays_at n i h = grind (arith, nat_tests)
 
 module _ {K S F : Type 0} where
-  pub in_list_at : (xs : List (Discovered K S F)) (i : ℕ) (x : Discovered K S F) → i < length xs → x ≡ get_or xs i x → x ≡ in_list xs i
-  in_list_at xs i x h e = e ∙ sym (ap (λ o. by_some o End (λ y. y)) (at_getD xs i x h))
-
-  pub in_list_past : (xs : List (Discovered K S F)) (i : ℕ) → length xs ≤ i → End ≡ in_list xs i
+  in_list_past : (xs : List (Discovered K S F)) (i : ℕ) → length xs ≤ i → End ≡ in_list xs i
   in_list_past xs i h = sym (ap (λ o. by_some o End (λ y. y)) (at_past xs i h))
 
   module _ (xs : Bor (List (Discovered K S F))) where
@@ -41,9 +39,5 @@ module _ {K S F : Type 0} where
             ap (λ (j : ℕ). nth_discovered list_feeds (from j) (λ n. instants (suc n)) k) (sym (on_from (length xs.now) i h)) ∙ rest ∙ ap (in_list xs.now) e
         go (inr h) rest = past (suc k) i instants h ∙ in_list_past xs.now (i + suc k) (omega arith)
 
-  pub list_nth : (feed : ListFeed K S F) (xs : List (Discovered K S F)) → feed.next ≡ 0 → feed.answers.now ≡ xs → (instants : ℕ → ℕ) (k : ℕ) → nth_discovered list_feeds feed instants k ≡ in_list xs k
-  list_nth feed xs start list instants k =
-      ap (λ (i : ℕ). nth_discovered list_feeds (from feed.answers i) instants k) start
-      ∙ nth_from feed.answers k 0 instants
-      ∙ ap (in_list feed.answers.now) (zero-add k)
-      ∙ ap (λ ys. in_list ys k) list
+    pub list_nth : (instants : ℕ → ℕ) (k : ℕ) → nth_discovered list_feeds (from 0) instants k ≡ in_list xs.now k
+    list_nth instants k = nth_from k 0 instants ∙ ap (in_list xs.now) (zero-add k)

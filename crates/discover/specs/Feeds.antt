@@ -1,5 +1,5 @@
 -- What a feed means.
-use Rattle.std.specs.Prelude.{ℕ, zero, suc, Some, None, Option}
+use Rattle.std.specs.Prelude.{◌≡◌, ℕ, zero, suc, Some, None, Option}
 use Rattle.model.specs.Outcome.{Outcome}
 use Rattle.discover.specs.declared.discovered.Discovered.{Discovered}
 use Rattle.discover.specs.declared.discovered.Discovered.TheVariants.{Pending, End, Fault, Insert, Remove}
@@ -42,3 +42,23 @@ discovered_worker End = None
 discovered_worker (Fault e) = None
 discovered_worker (Insert k s) = Some s
 discovered_worker (Remove k) = None
+
+-- what is inserted becomes f of it; all else is passed on
+abbrev pub each_inserted : {K S T F : Type 0} → (S → T) → Discovered K S F → Discovered K T F
+each_inserted f Pending = Pending
+each_inserted f End = End
+each_inserted f (Fault e) = Fault e
+each_inserted f (Insert k s) = Insert k (f s)
+each_inserted f (Remove k) = Remove k
+
+-- the same where what is made of a worker is told by a relation
+abbrev pub InsertsMade : {K S T F : Type 0} → (S → T → Type 0) → Discovered K S F → Discovered K T F → Type 0
+InsertsMade makes Pending d = d ≡ Pending
+InsertsMade makes End d = d ≡ End
+InsertsMade makes (Fault e) d = d ≡ Fault e
+InsertsMade {T = T} makes (Insert k s) d = (t : T) × makes s t × (d ≡ Insert k t)
+InsertsMade makes (Remove k) d = d ≡ Remove k
+
+-- a fact of the worker, if one is inserted
+abbrev pub ForInserted : {K S F : Type 0} → Discovered K S F → (S → Type 0) → Type 0
+ForInserted {K} {S} d P = (k : K) (s : S) → d ≡ Insert k s → P s

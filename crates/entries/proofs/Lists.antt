@@ -1,18 +1,15 @@
 -- What is found in a list of entries, and what a write at that place leaves.
-use Rattle.std.proofs.Common.{◌≡◌, ℕ, ◌<◌, Bool, true, false, cond, ◌||◌, List, [], ◌∷◌, length, get_or, take, set, is_some, Some, None, Option, sym, refl, ap, ◌∙◌}
-use Rattle.std.proofs.lemmas.List.{get_or-take}
+use Rattle.std.proofs.Common.{◌≡◌, ℕ, Bool, true, false, cond, ◌||◌, List, [], ◌∷◌, get_or, set, is_some, Some, None, Option, sym, refl, ap}
 use Rattle.model.specs.Lists.{place_of, one_more}
-use Rattle.lists.proofs.Places.{take_set_in, change_first, found}
+use Rattle.lists.proofs.Places.{change_first, found}
 use Rattle.service.specs.Meaning.{Sameness, Endpoints}
 use Rattle.cache_model.specs.declared.entry.Entry.{Entry}
 use Rattle.cache_model.specs.Entries.{cancelled, holding, has_serial, has_key, live_of, any_live, cancel, promote}
 use Rattle.cache_model.specs.Cache.{finish_in}
 
 -- the item that was found is changed in place
-pub change_front : {A : Type 0} (p : A → Bool) (f : A → A) (end xs : List A) (n i : ℕ) (d : A) → i < n → i < length xs → Some i ≡ place_of p (take n xs) → take n (set xs i (f (get_or xs i d))) ≡ change_first p f end (take n xs)
-change_front p f end xs n i d h l e =
-    take_set_in xs n i (f (get_or xs i d))
-    ∙ sym ((found p f end (take n xs) i (sym e)).changed d ∙ ap (λ y. set (take n xs) i (f y)) (get_or-take n xs i d h))
+pub changed_at : {A : Type 0} (p : A → Bool) (f : A → A) (end xs : List A) (i : ℕ) (d : A) → Some i ≡ place_of p xs → set xs i (f (get_or xs i d)) ≡ change_first p f end xs
+changed_at p f end xs i d e = sym ((found p f end xs i (sym e)).changed d)
 
 module _ {K S : Type 0} where
   module _ (keys : Sameness K) where

@@ -1,7 +1,7 @@
-// What a cache does with one of its lists: the first `len` entries of a slice, or all of it where it is shorter.
+// What a cache does with one of its lists. (Entries are reached by index: after a slice's `get_mut` a proof knows the slice's length alone. What each function does with its entry differs, and is what its contract says.)
 #![tactic(auto)]
 
-ghost use Rattle.std.specs.Prelude.{◌≡◌, ℕ, false, take, is_some, Some, None, Ok, Err, slice_set};
+ghost use Rattle.std.specs.Prelude.{◌≡◌, ℕ, false, is_some, Some, None, Ok, Err, slice_set};
 ghost use Rattle.model.specs.Options.{by_some};
 ghost use Rattle.model.specs.Lists.{at as item_at, place_of};
 ghost use Rattle.service.specs.Meaning.{refused_by};
@@ -11,25 +11,23 @@ ghost use Rattle.cache_model.specs.Cache.{finish_in};
 ghost use Rattle.cache_model.specs.declared.error.CallRefusal.TheVariants.{NotReady};
 ghost use Rattle.entries.specs.Asking.{told};
 
-pub mod wanted;
+pub mod position;
 
 use cache_model::entry::Entry;
 use cache_model::error::{CallRefusal, Failed};
 use service::readiness::Readiness;
 use service::{Endpoint, Key};
-use wanted::{LiveOf, WithSerial};
 
 // Asks the entry at a place whether it is ready; past the end there is none.
 pub fn ask<K: Copy, S: Endpoint>(
     items: &mut [Entry<K, S>],
-    len: usize,
     i: usize,
     at: u64,
 ) -> Result<bool, Failed<K, S::Error>>
-    ensures answer { result ≡ by_some (item_at (take len items.old) i) (Ok false) (λ e. told e (S.means.polled e.endpoint at).answer) }
-    ensures after { items.new ≡ by_some (item_at (take len items.old) i) items.old (λ e. slice_set items.old i (holding e (S.means.polled e.endpoint at).after)) }
+    ensures answer { result ≡ by_some (item_at items.old i) (Ok false) (λ e. told e (S.means.polled e.endpoint at).answer) }
+    ensures after { items.new ≡ by_some (item_at items.old i) items.old (λ e. slice_set items.old i (holding e (S.means.polled e.endpoint at).after)) }
 {
-    if i >= items.len().min(len) {
+    if i >= items.len() {
         return Ok(false);
     }
     match items[i].endpoint.poll_ready(at) {
@@ -45,15 +43,14 @@ pub fn ask<K: Copy, S: Endpoint>(
 // Hands a request to the entry at a place; a refusal changes nothing.
 pub fn call<K: Copy, S: Endpoint>(
     items: &mut [Entry<K, S>],
-    len: usize,
     i: usize,
     request: S::Request,
     at: u64,
 ) -> Result<S::Response, CallRefusal>
-    ensures answer { result ≡ by_some (item_at (take len items.old) i) (Err NotReady) (λ e. by_some (refused_by S.means e.endpoint) (Ok (S.means.accepted e.endpoint request at).answer) (λ x. Err (as_call x))) }
-    ensures after { items.new ≡ by_some (item_at (take len items.old) i) items.old (λ e. by_some (refused_by S.means e.endpoint) (slice_set items.old i (holding e (S.means.accepted e.endpoint request at).after)) (λ _. items.old)) }
+    ensures answer { result ≡ by_some (item_at items.old i) (Err NotReady) (λ e. by_some (refused_by S.means e.endpoint) (Ok (S.means.accepted e.endpoint request at).answer) (λ x. Err (as_call x))) }
+    ensures after { items.new ≡ by_some (item_at items.old i) items.old (λ e. by_some (refused_by S.means e.endpoint) (slice_set items.old i (holding e (S.means.accepted e.endpoint request at).after)) (λ _. items.old)) }
 {
-    if i >= items.len().min(len) {
+    if i >= items.len() {
         return Err(CallRefusal::NotReady);
     }
     let response = items[i].endpoint.call(request, at)?;
@@ -61,16 +58,11 @@ pub fn call<K: Copy, S: Endpoint>(
 }
 
 // Reads the weight of the entry at a place.
-pub fn load<K: Copy, S: Endpoint>(
-    items: &mut [Entry<K, S>],
-    len: usize,
-    i: usize,
-    at: u64,
-) -> Option<S::Metric>
-    ensures answer { result ≡ by_some (item_at (take len items.old) i) None (λ e. Some (S.means.weight e.endpoint at)) }
-    ensures after { items.new ≡ by_some (item_at (take len items.old) i) items.old (λ e. slice_set items.old i (holding e (S.means.loaded e.endpoint at))) }
+pub fn load<K: Copy, S: Endpoint>(items: &mut [Entry<K, S>], i: usize, at: u64) -> Option<S::Metric>
+    ensures answer { result ≡ by_some (item_at items.old i) None (λ e. Some (S.means.weight e.endpoint at)) }
+    ensures after { items.new ≡ by_some (item_at items.old i) items.old (λ e. slice_set items.old i (holding e (S.means.loaded e.endpoint at))) }
 {
-    if i >= items.len().min(len) {
+    if i >= items.len() {
         return None;
     }
     Some(items[i].endpoint.load(at))
@@ -79,33 +71,28 @@ pub fn load<K: Copy, S: Endpoint>(
 // Tells the first entry with the serial that a request sent at `sent` is over, and answers whether there is one.
 pub fn finish<K: Copy, S: Endpoint>(
     items: &mut [Entry<K, S>],
-    len: usize,
     serial: u64,
     sent: u64,
     at: u64,
 ) -> bool
-    ensures answer { result ≡ is_some (place_of (has_serial serial) (take len items.old)) }
-    ensures after { take len items.new ≡ finish_in S.means at (take len items.old) serial sent }
+    ensures answer { result ≡ is_some (place_of (has_serial serial) items.old) }
+    ensures after { items.new ≡ finish_in S.means at items.old serial sent }
 {
-    match lists::find(items, len, &WithSerial { serial }) {
-        Some(i) => {
-            items[i].endpoint.finish(sent, at);
-            true
-        }
-        None => false,
-    }
+    let Some(i) = position::with_serial(items, serial) else {
+        return false;
+    };
+    items[i].endpoint.finish(sent, at);
+    true
 }
 
 // Marks the uncancelled entry of the key cancelled, and answers whether there is one.
-pub fn cancel<K: Key, S: Copy>(items: &mut [Entry<K, S>], len: usize, key: &K) -> bool
-    ensures answer { result ≡ any_live K.sameness key.now (take len items.old) }
-    ensures after { take len items.new ≡ cancel K.sameness key.now (take len items.old) }
+pub fn cancel<K: Key, S: Copy>(items: &mut [Entry<K, S>], key: &K) -> bool
+    ensures answer { result ≡ any_live K.sameness key.now items.old }
+    ensures after { items.new ≡ cancel K.sameness key.now items.old }
 {
-    match lists::find(items, len, &LiveOf { key: *key }) {
-        Some(i) => {
-            items[i].cancelled = true;
-            true
-        }
-        None => false,
-    }
+    let Some(i) = position::live_of(items, key) else {
+        return false;
+    };
+    items[i].cancelled = true;
+    true
 }

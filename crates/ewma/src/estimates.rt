@@ -1,7 +1,6 @@
 // Estimates of the response time by Peak-EWMA.
 ghost use Rattle.std.specs.Prelude.{◌≡◌, from_bits, to_bits};
 ghost use Rattle.std.specs.Float.{binary64};
-ghost use Rattle.rounding.specs.Floats.{one, ◌⊖◌};
 ghost use Rattle.ewma_model.specs.PeakEwma as ewma;
 ghost use Rattle.ewma.specs.Estimates.{EstimatesStay, estimate_from, updated};
 
@@ -22,6 +21,7 @@ pub fn nanos(duration: u64) -> f64
 }
 
 // The finite number from 0 up that the bits stand for, and 0 for any other bits.
+#[tactic(auto, using(rounding::proofs::Values::number_bits, rounding::proofs::Kept::zero_bits, ewma_model::proofs::PeakEwma::cut_number, ewma_model::proofs::PeakEwma::cut_other))]
 fn finite_from_bits(bits: u64) -> f64
     ensures { result ≡ ewma.cut (from_bits binary64 bits) }
 {
@@ -32,13 +32,6 @@ fn finite_from_bits(bits: u64) -> f64
     }
 }
 
-// What the share leaves of 1.
-fn rest(share: f64) -> f64
-    ensures { result ≡ one ⊖ share }
-{
-    1.0 - share
-}
-
 // The estimate after a response time, at which the share of it is kept; a peak replaces it.
 fn averaged(estimate: f64, rtt: f64, share: f64) -> f64
     ensures { result ≡ ewma.averaged estimate rtt share }
@@ -46,7 +39,7 @@ fn averaged(estimate: f64, rtt: f64, share: f64) -> f64
     if estimate < rtt {
         rtt
     } else {
-        estimate * share + rtt * rest(share)
+        estimate * share + rtt * (1.0 - share)
     }
 }
 
@@ -81,6 +74,7 @@ impl RttEstimate {
 }
 
 // What is read from bits, and what any update makes of it, is finite and not below zero, and is kept by its bits.
+#[tactic(auto, using(crate::proofs::Keeping::stay))]
 pub fn estimates_stay_finite<D: Decay>(decay: &D)
     ensures { EstimatesStay D.decays decay.now }
 {

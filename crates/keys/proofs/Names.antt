@@ -1,5 +1,5 @@
 -- Texts packed in numbers, and back.
-use Rattle.std.proofs.Common.{◌≡◌, ℕ, zero, suc, ◌+◌, ◌*◌, ◌/◌, ◌%◌, ◌^◌, ◌<◌, ◌≤◌, Bool, true, false, cond, ◌&&◌, eqb, ltb, leb, List, [], ◌∷◌, ◌++◌, length, get_or, take, is_ok, Ok, Err, Decides, Result, sym, refl, ap, ◌∙◌, subst, ap₂, append_assoc, append-nil, not-suc-le-zero, arith, lit<, length-take}
+use Rattle.std.proofs.Common.{◌≡◌, ℕ, zero, suc, ◌+◌, ◌*◌, ◌/◌, ◌%◌, ◌^◌, ◌<◌, ◌≤◌, Bool, true, false, cond, ◌&&◌, eqb, ltb, leb, List, [], ◌∷◌, ◌++◌, length, get_or, take, is_ok, Ok, Err, Decides, Result, sym, refl, ap, ◌∙◌, subst, ap₂, append_assoc, append-nil, arith, lit<, length-take}
 use native.Mathlib.Nat.{pow-le-pow_right}
 use lib.Utf8.{encode, encodes}
 use Rattle.std.specs.Char.{is_ascii_alphanumeric, to_ascii_lowercase}
@@ -15,7 +15,7 @@ use Rattle.std.proofs.lemmas.Nat.{div-mul-add, mod-mul-add}
 use Rattle.std.proofs.lemmas.Int.Digits.{digits_of_step, number_lt, number_push}
 use Rattle.std.proofs.lemmas.List.{map_push, take_more, take_all, length-map}
 use Rattle.std.proofs.lemmas.Str.{encodes-append}
-use Rattle.std.proofs.lemmas.Bool.{and_parts, and_from, and_left, and_right, lt-ltb, le-leb, eqb-true, eq-eqb}
+use Rattle.std.proofs.lemmas.Bool.{and_parts, and_from, eqb-true, eq-eqb}
 use Rattle.std.proofs.lemmas.Bool.Decides.{nat_tests}
 use Rattle.service.specs.declared.refusal.Invalid.TheVariants as invalid
 use Rattle.keys.specs.declared.name.Name.{Name}
@@ -69,11 +69,17 @@ packed_same xs ys p q e = sym (unpacked xs p) ∙ ap (digits_of 256) e ∙ unpac
 pub text_back : (xs : List ℕ) → letters_or_digits xs ≡ true → text_of (name_of xs) ≡ xs
 text_back xs h = ap encodes (unpacked xs (bytes xs h)) ∙ encodes-IsAscii xs (IsAscii-from_all xs (each_below 128 (omega arith) xs (bytes xs h)))
 
+-- a name has at most eight bytes, all of them letters or digits
+name_parts : (text : List ℕ) → is_name text ≡ true → (length text ≤ 8) × (letters_or_digits text ≡ true)
+name_parts text h =
+    let p = and_parts (ltb 0 (length text) && leb (length text) 8) (letters_or_digits text) h in
+    (grind (arith, nat_tests, p.0), p.1)
+
 name_made : (text : List ℕ) (m : Name) → new_name text ≡ Ok m → (letters_or_digits text ≡ true) × (m ≡ name_of text)
 name_made text m e = go (is_name text) refl e
   where
     go : (t : Bool) → is_name text ≡ t → cond t (Ok (name_of text)) (Err invalid.Name) ≡ Ok m → (letters_or_digits text ≡ true) × (m ≡ name_of text)
-    go true i k = ((and_parts (ltb 0 (length text) && leb (length text) 8) (letters_or_digits text) i).1, cc)
+    go true i k = ((name_parts text i).1, cc)
     go false i k = let z : ◌≡◌ {A = ℕ} 0 1 = cc in absurd (omega arith)
 
 pub same_without_case : (text : List ℕ) → letters_or_digits text ≡ true → SameWithoutCase text (name_of text)
@@ -92,39 +98,32 @@ same_without_case text h other m e =
 pub record PackedSoFar (xs : List ℕ) (letters folded : ℕ) : Type 0 where
   pub letters_is : letters ≡ packed xs
   pub folded_is : folded ≡ packed (without_case xs)
-  pub all : letters_or_digits xs ≡ true
 
-pub all_push : (xs : List ℕ) (x : ℕ) → letters_or_digits xs ≡ true → is_ascii_alphanumeric x ≡ true → letters_or_digits (xs ++ (x ∷ [])) ≡ true
-all_push [] x h k = and_from (is_ascii_alphanumeric x) true k refl
-all_push (y ∷ xs) x h k =
-    let p = and_parts (is_ascii_alphanumeric y) (letters_or_digits xs) h in
-    and_from (is_ascii_alphanumeric y) (letters_or_digits (xs ++ (x ∷ []))) p.0 (all_push xs x p.1 k)
+all_taken : (i : ℕ) (xs : List ℕ) → letters_or_digits xs ≡ true → letters_or_digits (take i xs) ≡ true
+all_taken zero xs h = refl
+all_taken (suc i) [] h = refl
+all_taken (suc i) (x ∷ xs) h =
+    let p = and_parts (is_ascii_alphanumeric x) (letters_or_digits xs) h in
+    and_from (is_ascii_alphanumeric x) (letters_or_digits (take i xs)) p.0 (all_taken i xs p.1)
 
-pub small_so_far : (text : List ℕ) (i letters folded : ℕ) → i < length text → length text ≤ 8 → PackedSoFar (take i text) letters folded → (letters < 2 ^ 56) × (folded < 2 ^ 56)
+pub small_so_far : (text : List ℕ) (i letters folded : ℕ) → i < length text → is_name text ≡ true → PackedSoFar (take i text) letters folded → (letters < 2 ^ 56) × (folded < 2 ^ 56)
 small_so_far text i letters folded h k p =
     let xs = take i text in
-    let few : length xs ≤ 7 = simp length-take (omega arith) in
-    let a = seven_below xs (bytes xs p.all) few in
-    let b = seven_below (without_case xs) (lower_bytes xs p.all) (rw (length-map xs to_ascii_lowercase) few) in
+    let is = name_parts text k in
+    let all = all_taken i text is.1 in
+    let few : length xs ≤ 7 = simp length-take (omega (arith, is.0)) in
+    let a = seven_below xs (bytes xs all) few in
+    let b = seven_below (without_case xs) (lower_bytes xs all) (rw (length-map xs to_ascii_lowercase) few) in
     (omega (arith, p.letters_is), omega (arith, p.folded_is))
 
-pub packed_more : (text : List ℕ) (i letters folded x y : ℕ) → i < length text → PackedSoFar (take i text) letters folded → is_ascii_alphanumeric (get_or text i 0) ≡ true → x ≡ get_or text i 0 → y ≡ to_ascii_lowercase (get_or text i 0) → PackedSoFar (take (i + 1) text) (letters * 256 + x) (folded * 256 + y)
-packed_more text i letters folded x y h p k ex ey =
+pub packed_step : (text : List ℕ) (i : ℕ) → i < length text → packed (take (i + 1) text) ≡ packed (take i text) * 256 + get_or text i 0
+packed_step text i h = ap packed (take_more text i 0 h) ∙ number_push 256 (take i text) (get_or text i 0)
+
+pub folded_step : (text : List ℕ) (i : ℕ) → i < length text → packed (without_case (take (i + 1) text)) ≡ packed (without_case (take i text)) * 256 + to_ascii_lowercase (get_or text i 0)
+folded_step text i h =
     let xs = take i text in
-    let b : ℕ = get_or text i 0 in
-    subst (λ (l : List ℕ). PackedSoFar l (letters * 256 + x) (folded * 256 + y)) (sym (take_more text i 0 h)) (record {
-      letters_is = ap₂ (λ (m n : ℕ). m * 256 + n) p.letters_is ex ∙ sym (number_push 256 xs b);
-      folded_is = ap₂ (λ (m n : ℕ). m * 256 + n) p.folded_is ey ∙ sym (ap packed (map_push to_ascii_lowercase xs b) ∙ number_push 256 (without_case xs) (to_ascii_lowercase b));
-      all = all_push xs b p.all k;
-    })
-
-pub not_all : (xs : List ℕ) (i : ℕ) → i < length xs → is_ascii_alphanumeric (get_or xs i 0) ≡ false → letters_or_digits xs ≡ false
-not_all [] i h k = absurd (not-suc-le-zero h)
-not_all (x ∷ xs) zero h k = and_left (is_ascii_alphanumeric x) (letters_or_digits xs) k
-not_all (x ∷ xs) (suc i) h k = and_right (is_ascii_alphanumeric x) (letters_or_digits xs) (not_all xs i (omega arith) k)
-
-pub refused : (text : List ℕ) → is_name text ≡ false → Err invalid.Name ≡ new_name text
-refused text h = sym (ap (λ (t : Bool). cond t (Ok (name_of text)) (Err invalid.Name)) h)
+    let x : ℕ = get_or text i 0 in
+    ap (λ (l : List ℕ). packed (without_case l)) (take_more text i 0 h) ∙ ap packed (map_push to_ascii_lowercase xs x) ∙ number_push 256 (without_case xs) (to_ascii_lowercase x)
 
 -- what is promised of a name n that is made of a text
 pub record Made (text : List ℕ) (n : Name) : Type 0 where
@@ -132,18 +131,21 @@ pub record Made (text : List ℕ) (n : Name) : Type 0 where
   pub text_is : text_of n ≡ text
   pub same : SameWithoutCase text n
 
-of_text : (text : List ℕ) (letters folded : ℕ) → 0 < length text → length text ≤ 8 → PackedSoFar text letters folded → Made text (record { letters = letters; folded = folded })
-of_text text letters folded h k p =
-    let is_one : is_name text ≡ true = and_from _ (letters_or_digits text) (and_from (ltb 0 (length text)) (leb (length text) 8) (lt-ltb 0 (length text) h) (le-leb (length text) 8 k)) p.all in
+of_text : (text : List ℕ) (letters folded : ℕ) → is_name text ≡ true → PackedSoFar text letters folded → Made text (record { letters = letters; folded = folded })
+of_text text letters folded h p =
+    let all = (name_parts text h).1 in
     let e : name_of text ≡ record { letters = letters; folded = folded } = ap₂ (λ (m n : ℕ). record { letters = m; folded = n }) (sym p.letters_is) (sym p.folded_is) in
     subst (Made text) e (record {
-      answer = sym (ap (λ (t : Bool). cond t (Ok (name_of text)) (Err invalid.Name)) is_one);
-      text_is = text_back text p.all;
-      same = same_without_case text p.all;
+      answer = sym (ap (λ (t : Bool). cond t (Ok (name_of text)) (Err invalid.Name)) h);
+      text_is = text_back text all;
+      same = same_without_case text all;
     })
 
-pub made_of : (text : List ℕ) (i letters folded : ℕ) → 0 < length text → length text ≤ 8 → length text ≤ i → PackedSoFar (take i text) letters folded → Made text (record { letters = letters; folded = folded })
-made_of text i letters folded h k l p = of_text text letters folded h k (subst (λ (xs : List ℕ). PackedSoFar xs letters folded) (take_all i text l) p)
+pub made_of : (text : List ℕ) (i letters folded : ℕ) → is_name text ≡ true → length text ≤ i → PackedSoFar (take i text) letters folded → Made text (record { letters = letters; folded = folded })
+made_of text i letters folded h l p = of_text text letters folded h (subst (λ (xs : List ℕ). PackedSoFar xs letters folded) (take_all i text l) p)
+
+-- what the proof of `Name::new` takes
+pub ruleset byte_by_byte = (small_so_far, packed_step, folded_step, made_of)
 
 -- ---- printed byte by byte
 

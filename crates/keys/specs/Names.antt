@@ -1,6 +1,7 @@
 -- Names: which texts are names, how they are packed, and when two are the same.
-use Rattle.std.specs.Prelude.{◌≡◌, ℕ, Bool, true, cond, ◌&&◌, List, [], ◌∷◌, map, length, Ok, Err, Decides, Result, nat_le, nat_lt}
+use Rattle.std.specs.Prelude.{◌≡◌, ℕ, Bool, cond, ◌&&◌, List, map, length, Ok, Err, Decides, Result, nat_le, nat_lt}
 use Rattle.std.proofs.Math.Utf8.{encodes}
+use Rattle.std.specs.List.{list_all}
 use Rattle.std.specs.Char.{is_ascii_alphanumeric, to_ascii_lowercase}
 use Rattle.std.specs.Int.Digits.{number_from_digits, digits_of}
 use Rattle.service.specs.declared.refusal.Invalid.{Invalid}
@@ -10,8 +11,7 @@ use Rattle.service.specs.Kinds.{same_number}
 use Rattle.keys.specs.declared.name.Name.{Name}
 
 abbrev pub letters_or_digits : List ℕ → Bool
-letters_or_digits [] = true
-letters_or_digits (b ∷ bs) = is_ascii_alphanumeric b && letters_or_digits bs
+letters_or_digits text = list_all is_ascii_alphanumeric text
 
 -- one to eight ASCII letters or digits
 abbrev pub is_name : List ℕ → Bool

@@ -1,9 +1,8 @@
 // How a name is made, compared and printed.
-ghost use Rattle.std.specs.Prelude.{◌≡◌, IfOk, IfErr, Some};
-ghost use Rattle.std.specs.Char.{to_ascii_lowercase};
+ghost use Rattle.std.specs.Prelude.{◌≡◌, ◌+◌, ◌*◌, ◌^◌, ◌<◌, IfOk, IfErr, Some};
 ghost use Rattle.std.specs.Fmt.{WritesOnOk};
 ghost use Rattle.service.specs.Numbers.{invalid_number};
-ghost use Rattle.keys.specs.Names.{names, new_name, text_of, shown, SameWithoutCase};
+ghost use Rattle.keys.specs.Names.{names, letters_or_digits, is_name, new_name, text_of, shown, SameWithoutCase};
 
 use crate::name::Name;
 use service::Key;
@@ -13,13 +12,29 @@ use std::fmt;
 // The most letters of a name.
 const LONGEST: usize = 8;
 
-// The letter in lower case; a digit stays.
-fn lower_case(byte: u8) -> u8
-    ensures { result ≡ to_ascii_lowercase byte }
+// Whether each byte is an ASCII letter or digit.
+fn letters_or_digits(text: &[u8]) -> bool
+    ensures { result ≡ letters_or_digits text.now }
 {
-    byte.to_ascii_lowercase()
+    text.iter().all(|byte| byte.is_ascii_alphanumeric())
 }
 
+// Whether the text is a name: one to eight letters or digits.
+fn is_name(text: &[u8]) -> bool
+    ensures { result ≡ is_name text.now }
+{
+    (1..=LONGEST).contains(&text.len()) && letters_or_digits(text)
+}
+
+// One byte more, below those that are packed.
+fn with_byte(packed: u64, byte: u8) -> u64
+    requires { packed < 2 ^ 56 }
+    ensures { result ≡ packed * 256 + byte }
+{
+    packed * 256 + u64::from(byte)
+}
+
+#[tactic(auto, using(crate::proofs::Names::byte_by_byte))]
 impl Name {
     // The name of this spelling, which has one to eight ASCII letters or digits.
     pub fn new(text: &[u8]) -> Result<Self, Invalid>
@@ -28,17 +43,14 @@ impl Name {
         ensures text { IfOk result (λ n. text_of n ≡ text.now) }
         ensures same { IfOk result (λ n. SameWithoutCase text.now n) }
     {
-        if text.is_empty() || text.len() > LONGEST {
+        if !is_name(text) {
             return Err(Invalid::Name);
         }
         let mut letters = 0;
         let mut folded = 0;
         for byte in text {
-            if !byte.is_ascii_alphanumeric() {
-                return Err(Invalid::Name);
-            }
-            letters = letters * 256 + u64::from(*byte);
-            folded = folded * 256 + u64::from(lower_case(*byte));
+            letters = with_byte(letters, *byte);
+            folded = with_byte(folded, byte.to_ascii_lowercase());
         }
         Ok(Name { letters, folded })
     }

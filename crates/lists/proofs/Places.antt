@@ -1,6 +1,7 @@
 -- Places in the front of a list: what is read, found, written and taken away there.
-use Rattle.std.proofs.Common.{◌≡◌, ℕ, zero, suc, ◌+◌, ◌-◌, ◌<◌, ◌≤◌, min, Bool, true, false, cond, List, [], ◌∷◌, ◌++◌, length, get_or, take, set, Some, None, Option, sym, refl, ap, ◌∙◌, ap₂, arith, MatchOption}
-use Rattle.std.proofs.lemmas.List.{length-take, get_or-take, get_or_default, take-take}
+use Rattle.std.proofs.Common.{◌≡◌, ℕ, zero, suc, ◌-◌, ◌<◌, ◌≤◌, Bool, true, false, cond, List, [], ◌∷◌, ◌++◌, length, get_or, take, drop, set, Some, None, Option, sym, refl, ap, ◌∙◌, ap₂, arith, MatchOption}
+use Rattle.std.proofs.lemmas.List.{get_or_default, take-set-le, take-append-drop}
+use Rattle.std.specs.List.{swap}
 use Rattle.std.proofs.lemmas.Option.{MatchOption-at_some, MatchOption-at_none}
 use Rattle.model.specs.Lists.{one_more, place_of, at, last, front, swap_remove}
 
@@ -12,10 +13,6 @@ module _ {A : Type 0} where
   at_front [] (suc n) i x h l e = absurd (omega arith)
   at_front (y ∷ ys) (suc n) zero x h l e = ap Some (sym e)
   at_front (y ∷ ys) (suc n) (suc i) x h l e = at_front ys n i x (omega arith) (omega arith) e
-
-  -- the same of an item that was not copied out
-  pub at_get : (xs : List A) (n i : ℕ) (d : A) → i < n → i < length xs → at (take n xs) i ≡ Some (get_or xs i d)
-  at_get xs n i d h l = at_front xs n i (get_or xs i d) h l (get_or_default xs i d (get_or xs i d) l)
 
   pub at_set : (xs : List A) (i : ℕ) (x v : A) → at xs i ≡ Some x → at (set xs i v) i ≡ Some v
   at_set [] i x v e = let z : ◌≡◌ {A = ℕ} 0 1 = cc in absurd (omega arith)
@@ -30,13 +27,9 @@ module _ {A : Type 0} where
   take_set_in (x ∷ xs) (suc n) zero v = refl
   take_set_in (x ∷ xs) (suc n) (suc i) v = ap (λ ys. x ∷ ys) (take_set_in xs n i v)
 
-  -- the front as long as the list allows
-  pub take_min : (n : ℕ) (xs : List A) → take (min n (length xs)) xs ≡ take n xs
-  take_min zero xs = let e : min 0 (length xs) ≡ 0 = omega arith in ap (λ m. take m xs) e
-  take_min (suc n) [] = let e : min (suc n) 0 ≡ 0 = omega arith in ap (λ m. take {A = A} m []) e
-  take_min (suc n) (x ∷ xs) =
-      let e : min (suc n) (suc (length xs)) ≡ suc (min n (length xs)) = omega arith in
-      rw e (ap (λ ys. x ∷ ys) (take_min n xs))
+  -- the front of a list was written as it was
+  pub put_back : (xs zs : List A) (n : ℕ) → zs ≡ take n xs → zs ++ drop n xs ≡ xs
+  put_back xs zs n e = ap (λ ys. ys ++ drop n xs) e ∙ take-append-drop n xs
 
   -- ---- taking away
 
@@ -59,16 +52,12 @@ module _ {A : Type 0} where
   swap_remove_is (x ∷ xs) zero (suc i) d h l = absurd (omega arith)
   swap_remove_is (x ∷ xs) (suc n) (suc i) d h l = ap (λ ys. x ∷ ys) (swap_remove_is xs n i d (omega arith) (omega arith))
 
-  -- the last of the front is written at i, and the front is one shorter
-  pub swap_remove_front : (xs : List A) (n m i : ℕ) (x : A) → m ≡ min n (length xs) → i < m → x ≡ get_or xs (m - 1) x → take (m - 1) (set xs i x) ≡ swap_remove (take n xs) i
-  swap_remove_front xs n m i x is h e =
-      let long : length (take n xs) ≡ suc (m - 1) = length-take n xs ∙ sym is ∙ omega arith in
-      let read : get_or (take n xs) (m - 1) x ≡ x = get_or-take n xs (m - 1) x (omega arith) ∙ sym e in
-      take_set_in xs (m - 1) i x
-      ∙ ap (λ ys. set ys i x) (sym (take-take (m - 1) n xs (omega arith)))
-      ∙ sym (take_set_in (take n xs) (m - 1) i x)
-      ∙ ap (λ y. take (m - 1) (set (take n xs) i y)) (sym read)
-      ∙ sym (swap_remove_is (take n xs) (m - 1) i x long (omega arith))
+  -- the last one moves to i, and the list is one shorter
+  pub swap_remove_swapped : (xs : List A) (i : ℕ) → i < length xs → take (length xs - 1) (swap xs i (length xs - 1)) ≡ swap_remove xs i
+  swap_remove_swapped [] i h = absurd (omega arith)
+  swap_remove_swapped (x ∷ ys) i h =
+      let n = length (x ∷ ys) - 1 in
+      take-set-le n (set (x ∷ ys) i (get_or (x ∷ ys) n x)) n (get_or (x ∷ ys) i x) (omega arith) ∙ sym (swap_remove_is (x ∷ ys) n i x (omega arith) (omega arith))
 
   -- what stood at i does not matter
   pub swap_remove_set : (xs : List A) (i : ℕ) (v : A) → swap_remove (set xs i v) i ≡ swap_remove xs i
@@ -84,36 +73,6 @@ module _ {A : Type 0} where
   -- ---- finding
 
   module _ (p : A → Bool) where
-    abbrev none_more : Bool → Option ℕ → Type 0
-    none_more b o = cond b (Some 0) (one_more o) ≡ None
-
-    pub place_more : (xs : List A) (i : ℕ) (x : A) → i < length xs → x ≡ get_or xs i x → place_of p (take i xs) ≡ None → p x ≡ false → place_of p (take (i + 1) xs) ≡ None
-    place_more [] i x h e n l = absurd (omega arith)
-    place_more (y ∷ ys) zero x h e n l = ap (λ z. cond (p z) (Some 0) None) (sym e) ∙ ap (λ b. cond b (Some 0) None) l
-    place_more (y ∷ ys) (suc i) x h e n l =
-        let q : suc i + 1 ≡ suc (i + 1) = omega arith in
-        rw q (go (p y) (place_of p (take i ys)) n (λ z. place_more ys i x (omega arith) e z l))
-      where
-        go : (b : Bool) (o : Option ℕ) → none_more b o → (o ≡ None → place_of p (take (i + 1) ys) ≡ None) → none_more b (place_of p (take (i + 1) ys))
-        go true o f g = f
-        go false None f g = ap one_more (g refl)
-        go false (Some j) f g = let z : ◌≡◌ {A = ℕ} 0 1 = cc in absurd (omega arith)
-
-    -- the same, with another term for the next place
-    pub place_next : (xs : List A) (i next : ℕ) (x : A) → next ≡ i + 1 → i < length xs → x ≡ get_or xs i x → place_of p (take i xs) ≡ None → p x ≡ false → place_of p (take next xs) ≡ None
-    place_next xs i next x is h e n l = ap (λ k. place_of p (take k xs)) is ∙ place_more xs i x h e n l
-
-    pub place_here : (xs : List A) (n i : ℕ) (x : A) → i < n → i < length xs → x ≡ get_or xs i x → place_of p (take i xs) ≡ None → p x ≡ true → place_of p (take n xs) ≡ Some i
-    place_here xs zero i x h l e u v = absurd (omega arith)
-    place_here [] (suc n) i x h l e u v = absurd (omega arith)
-    place_here (y ∷ ys) (suc n) zero x h l e u v = ap (λ z. cond (p z) (Some 0) (one_more (place_of p (take n ys)))) (sym e) ∙ ap (λ b. cond b (Some 0) (one_more (place_of p (take n ys)))) v
-    place_here (y ∷ ys) (suc n) (suc i) x h l e u v = go (p y) (place_of p (take i ys)) u (λ z. place_here ys n i x (omega arith) (omega arith) e z v)
-      where
-        go : (b : Bool) (o : Option ℕ) → none_more b o → (o ≡ None → place_of p (take n ys) ≡ Some i) → cond b (Some 0) (one_more (place_of p (take n ys))) ≡ Some (suc i)
-        go true o f g = let z : ◌≡◌ {A = ℕ} 0 1 = cc in absurd (omega arith)
-        go false None f g = ap one_more (g refl)
-        go false (Some j) f g = let z : ◌≡◌ {A = ℕ} 0 1 = cc in absurd (omega arith)
-
     -- the first that passes is changed by f; where none does, `end` follows
     abbrev pub change_first : (A → A) → List A → List A → List A
     change_first f end [] = end

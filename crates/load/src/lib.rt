@@ -12,7 +12,7 @@ use service::refusal::EndpointRefusal;
 use service::{Endpoint, Service};
 
 // A call is refused at this count of requests out, and above.
-const CEILING: u32 = 4_294_967_294;
+pub const CEILING: u32 = u32::MAX - 1;
 
 impl<S: Service> PendingRequests<S> {
     // An endpoint over the service, with no request out.
@@ -52,9 +52,7 @@ impl<S: Service> Endpoint for PendingRequests<S> {
         if self.count >= CEILING {
             return Err(EndpointRefusal::AtCeiling);
         }
-        let Ok(response) = self.service.call(request, at) else {
-            return Err(EndpointRefusal::NoGrant);
-        };
+        let response = self.service.call(request, at)?;
         self.count += 1;
         Ok(response)
     }

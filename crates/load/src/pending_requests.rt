@@ -1,6 +1,6 @@
 // A bare service with the number of its requests out.
 #[derive(Clone, Copy)]
 pub struct PendingRequests<S> {
-    pub(crate) service: S,
-    pub(crate) count: u32,
+    pub service: S,
+    pub count: u32,
 }

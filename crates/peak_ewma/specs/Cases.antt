@@ -5,14 +5,19 @@ use Rattle.decay.specs.declared.halving.Halving.{Halving}
 use Rattle.decay.specs.Kinds.{halving_decays}
 use Rattle.ewma_model.specs.PeakEwma.{nanos}
 use Rattle.peak_ewma.specs.declared.peak_ewma.PeakEwma.{PeakEwma}
-use Rattle.peak_ewma.specs.Endpoint.{started, with_service, estimated, weighed}
+use Rattle.peak_ewma.specs.declared.settings.Settings.{Settings}
+use Rattle.load.specs.Pending.{counting}
+use Rattle.peak_ewma.specs.Endpoint.{started, with_pending, estimated, weighed}
+
+abbrev pub a_second : Settings Halving
+a_second = record { decay = record {}; default_rtt = 10 ^ 9; decay_period = 10 ^ 9 }
 
 -- over some service, which no estimate and no weight looks at
 abbrev pub made_at_0 : PeakEwma (Unit {0}) Halving
-made_at_0 = started tt (record {}) (10 ^ 9) (10 ^ 9) 0
+made_at_0 = started tt a_second 0
 
 abbrev pub with_three_out : PeakEwma (Unit {0}) Halving
-with_three_out = with_service made_at_0 tt 3
+with_three_out = with_pending made_at_0 (counting tt 3)
 
 pub record WorkedCases : Type 0 where
   -- 2^53 + 1 nanoseconds are not a number of 64 bits, and become 2^53

@@ -1,3 +1,4 @@
+pub mod Durations
 pub mod Endpoint
 pub mod Feed
 pub mod Cases

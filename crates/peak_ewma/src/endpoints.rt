@@ -3,52 +3,36 @@ ghost use Rattle.std.specs.Prelude.{◌≡◌};
 ghost use Rattle.peak_ewma.specs.Endpoint.{started, made, estimate_of, observed, peak_ewma};
 
 use crate::peak_ewma::PeakEwma;
+use crate::settings::Settings;
 use decay::Decay;
 use ewma::cost::Cost;
 use ewma::estimates::nanos;
 use ewma::rtt_estimate::RttEstimate;
+use load::pending_requests::PendingRequests;
 use service::readiness::Readiness;
 use service::refusal::{EndpointRefusal, Invalid};
 use service::{Endpoint, Service};
 use std::num::{f64_to_bits_with_nan, nearest_u64_to_f64};
 
-pub(crate) const CEILING: u32 = 4_294_967_294;
-
 impl<S: Copy, D: Decay> PeakEwma<S, D> {
     // An endpoint with no requests out whose estimate is the default, updated at `at`; no duration may be zero.
-    pub fn new(
-        service: S,
-        decay: D,
-        default_rtt: u64,
-        decay_period: u64,
-        at: u64,
-    ) -> Result<Self, Invalid>
-        ensures { result ≡ made service decay default_rtt decay_period at }
+    pub fn new(service: S, settings: Settings<D>, at: u64) -> Result<Self, Invalid>
+        ensures { result ≡ made service settings at }
     {
-        if default_rtt == 0 || decay_period == 0 {
-            return Err(Invalid::Duration);
-        }
-        Ok(PeakEwma::started(service, decay, default_rtt, decay_period, at))
+        settings.check()?;
+        Ok(PeakEwma::started(service, settings, at))
     }
 
     // The same with durations that were looked at.
-    pub(crate) fn started(
-        service: S,
-        decay: D,
-        default_rtt: u64,
-        decay_period: u64,
-        at: u64,
-    ) -> Self
-        ensures { result ≡ started service decay default_rtt decay_period at }
+    pub(crate) fn started(service: S, settings: Settings<D>, at: u64) -> Self
+        ensures { result ≡ started service settings at }
     {
-        let rtt_bits = f64_to_bits_with_nan(nanos(default_rtt));
         PeakEwma {
-            service,
-            decay,
-            decay_period,
-            rtt_bits,
+            pending: PendingRequests { service, count: 0 },
+            decay: settings.decay,
+            decay_period: settings.decay_period,
+            rtt_bits: f64_to_bits_with_nan(nanos(settings.default_rtt)),
             update_at: at,
-            count: 0,
         }
     }
 
@@ -85,36 +69,26 @@ impl<S: Service, D: Decay> Endpoint for PeakEwma<S, D> {
     ghost means = { peak_ewma D.Decay.decays S.Service.serves };
 
     fn count(&self) -> u32 {
-        self.count
+        self.pending.count()
     }
 
     fn poll_ready(&mut self, at: u64) -> Readiness<S::Error> {
-        self.service.poll_ready(at)
+        self.pending.poll_ready(at)
     }
 
     fn call(&mut self, request: S::Request, at: u64) -> Result<S::Response, EndpointRefusal> {
-        if !self.service.is_granted() {
-            return Err(EndpointRefusal::NoGrant);
-        }
-        if self.count >= CEILING {
-            return Err(EndpointRefusal::AtCeiling);
-        }
-        let Ok(response) = self.service.call(request, at) else {
-            return Err(EndpointRefusal::NoGrant);
-        };
-        self.count += 1;
-        Ok(response)
+        self.pending.call(request, at)
     }
 
     fn finish(&mut self, sent: u64, at: u64) {
         let _ = self.update_estimate(sent, at);
-        self.count = self.count.saturating_sub(1);
+        self.pending.finish(sent, at);
     }
 
     fn load(&mut self, at: u64) -> Cost {
         let estimate = self.update_estimate(at, at);
         Cost {
-            nanos: estimate * nearest_u64_to_f64(u64::from(self.count) + 1),
+            nanos: estimate * nearest_u64_to_f64(u64::from(self.count()) + 1),
         }
     }
 }

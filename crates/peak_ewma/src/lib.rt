@@ -6,5 +6,6 @@ pub mod endpoints;
 pub mod feeds;
 pub mod peak_ewma;
 pub mod peak_ewma_discover;
+pub mod settings;
 #[cfg(test)]
 mod tests;

@@ -1,8 +1,8 @@
+use crate::settings::Settings;
+
 // A feed whose bare services become endpoints weighed by response time.
 #[derive(Drop)]
 pub struct PeakEwmaDiscover<F, D> {
     pub(crate) discover: F,
-    pub(crate) decay: D,
-    pub(crate) default_rtt: u64,
-    pub(crate) decay_period: u64,
+    pub(crate) settings: Settings<D>,
 }

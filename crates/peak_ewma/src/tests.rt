@@ -2,10 +2,11 @@
 ghost use Rattle.std.specs.Prelude.{Some, None, refl};
 ghost use Rattle.service.specs.declared.readiness.Readiness.TheVariants.{Ready};
 
-use crate::endpoints::CEILING;
 use crate::peak_ewma::PeakEwma;
 use decay::halving::Halving;
 use ewma::estimates::nanos;
+use load::CEILING;
+use load::pending_requests::PendingRequests;
 use service::readiness::Readiness;
 use service::refusal::{EndpointRefusal, ServiceRefusal};
 use service::{Endpoint, Service};
@@ -44,13 +45,8 @@ impl Service for Echo {
     }
 
     fn call(&mut self, request: u64, _at: u64) -> Result<u64, ServiceRefusal> {
-        match self.granted {
-            None => Err(ServiceRefusal::NoGrant),
-            Some(_) => {
-                self.granted = None;
-                Ok(request)
-            }
-        }
+        self.granted.take().ok_or(ServiceRefusal::NoGrant)?;
+        Ok(request)
     }
 }
 
@@ -59,12 +55,11 @@ fn with_count(count: u32) -> PeakEwma<Echo, Halving> {
     let service = Echo { granted: Some(0) };
     let rtt_bits = f64_to_bits_with_nan(nanos(SECOND));
     PeakEwma {
-        service,
+        pending: PendingRequests { service, count },
         decay: Halving,
         decay_period: SECOND,
         rtt_bits,
         update_at: 0,
-        count,
     }
 }
 
@@ -72,10 +67,10 @@ fn with_count(count: u32) -> PeakEwma<Echo, Halving> {
 fn largest_counts(rt: HostRuntime) {
     let mut full = with_count(CEILING);
     assert_eq!(rt; full.call(7, 1), Err(EndpointRefusal::AtCeiling));
-    assert_eq!(rt; full.service.granted, Some(0));
+    assert_eq!(rt; full.pending.service.granted, Some(0));
     let mut last = with_count(CEILING - 1);
     assert_eq!(rt; last.call(7, 1), Ok(7));
-    assert_eq!(rt; last.count, CEILING);
+    assert_eq!(rt; last.pending.count, CEILING);
     assert_eq!(rt; last.call(7, 1), Err(EndpointRefusal::NoGrant));
     // one second for each of 2^32
     assert!(rt; with_count(u32::MAX).load(0).nanos == 4294967296000000000.0);
@@ -85,7 +80,7 @@ fn largest_counts(rt: HostRuntime) {
 fn no_requests_out(rt: HostRuntime) {
     let mut idle = with_count(0);
     idle.finish(0, 3 * SECOND);
-    assert_eq!(rt; idle.count, 0);
+    assert_eq!(rt; idle.pending.count, 0);
     assert!(rt; idle.estimate().rtt_ns == nanos(3 * SECOND));
     assert!(rt; idle.load(3 * SECOND).nanos == nanos(3 * SECOND));
 }

@@ -1,10 +1,9 @@
 -- The steps of a pass that moves what stays to the front of the same list.
 use Rattle.std.proofs.Common.{◌≡◌, ℕ, ◌+◌, ◌<◌, ◌≤◌, Bool, true, false, cond, List, [], ◌∷◌, ◌++◌, length, get_or, take, drop, set, Some, None, Ok, Err, Option, Result, sym, refl, ap, ◌∙◌, subst, arith}
-use Rattle.std.proofs.lemmas.List.{append_assoc, length-take-le, length-set, get_or-take, drop_more, drop-set-lt, drop_all, take-set-le, take_more_set, get_or-set_same}
+use Rattle.std.proofs.lemmas.List.{length-set, drop_more, drop-set-lt, drop_all, take-set-le, take_more_set, get_or-set_same}
 use Rattle.std.proofs.lemmas.Bool.{cond-true, cond-false}
 use Rattle.model.specs.Options.{by_some}
 use Rattle.model.specs.Lists.{at}
-use Rattle.lists.proofs.Places.{take_set_in}
 use Rattle.service.specs.Meaning.{Sameness, Endpoints}
 use Rattle.service.specs.declared.readiness.Readiness.{Readiness}
 use Rattle.service.specs.declared.readiness.Readiness.TheVariants.{Ready, Pending, Failed}
@@ -20,24 +19,9 @@ use Rattle.ready_cache.proofs.Steps.{pick_ready, pick_pending, pick_failed}
 use Rattle.ready_cache.specs.declared.places.Places.{Places}
 use Rattle.ready_cache.specs.Passing.{over, kept, Turned, Promoted, Refused, Ended, ended, left_of, Went, Ends}
 
--- ---- lists
-
--- a write before j leaves what stands from j on
-drop_after : {A : Type 0} (xs : List A) (n j w : ℕ) (x : A) → w < j → drop j (take n (set xs w x)) ≡ drop j (take n xs)
-drop_after xs n j w x h = ap (drop j) (take_set_in xs n w x) ∙ drop-set-lt j (take n xs) w x h
-
-pub drop_here : {A : Type 0} (xs : List A) (n i : ℕ) (x : A) → i < n → n ≤ length xs → x ≡ get_or xs i x → drop i (take n xs) ≡ x ∷ drop (i + 1) (take n xs)
-drop_here xs n i x h l e =
-    let long = length-take-le n xs l in
-    drop_more (take n xs) i x (omega arith) ∙ ap (λ y. y ∷ drop (i + 1) (take n xs)) (get_or-take n xs i x h ∙ sym e)
-
--- the item at i moves to w
-pub move_more : {A : Type 0} (xs : List A) (n i w : ℕ) (x : A) → w ≤ i → i < n → n ≤ length xs → x ≡ get_or xs i x → take (w + 1) (set xs w x) ++ drop (i + 1) (take n (set xs w x)) ≡ take w xs ++ drop i (take n xs)
-move_more xs n i w x h k l e =
-    ap (λ z. z ++ drop (i + 1) (take n (set xs w x))) (take_more_set xs w x (omega arith))
-    ∙ ap (λ z. (take w xs ++ x ∷ []) ++ z) (drop_after xs n (i + 1) w x (omega arith))
-    ∙ append_assoc (take w xs) (x ∷ []) (drop (i + 1) (take n xs))
-    ∙ ap (λ z. take w xs ++ z) (sym (drop_here xs n i x k l e))
+-- what stands from a place on
+drop_here : {A : Type 0} (xs : List A) (i : ℕ) (x : A) → i < length xs → x ≡ get_or xs i x → drop i xs ≡ x ∷ drop (i + 1) xs
+drop_here xs i x l e = drop_more xs i x l ∙ ap (λ y. y ∷ drop (i + 1) xs) (sym e)
 
 -- ---- one turn
 
@@ -72,9 +56,9 @@ module _ {K S Q A E W : Type 0} (ends : Endpoints S Q A E W) (now : ℕ) (xs : L
         }
 
     -- in memory ys after the question, where f was read
-    module _ (ys : List (Entry K S)) (f : Entry K S) (n : ℕ) (here : at (take n xs) p.read ≡ Some e) (long : p.read < length xs) (left : ys ≡ by_some (at (take n xs) p.read) xs (λ z. set xs p.read (holding z (ends.polled z.endpoint now).after))) where
+    module _ (ys : List (Entry K S)) (f : Entry K S) (here : at xs p.read ≡ Some e) (long : p.read < length xs) (left : ys ≡ by_some (at xs p.read) xs (λ z. set xs p.read (holding z (ends.polled z.endpoint now).after))) where
       abbrev said : Result Bool (Failure K E)
-      said = by_some (at (take n xs) p.read) (Ok false) (λ z. told z (ends.polled z.endpoint now).answer)
+      said = by_some (at xs p.read) (Ok false) (λ z. told z (ends.polled z.endpoint now).answer)
 
       heard : said ≡ told e answer
       heard = ap (λ o. by_some o (Ok false) (λ z. told z (ends.polled z.endpoint now).answer)) here
@@ -126,103 +110,87 @@ module _ {K S Q A E W : Type 0} (ends : Endpoints S Q A E W) (now : ℕ) where
   pub placed : (xs ys : List (Entry K S)) (p q : Places) (r : Result (Option (Entry K S)) (Failure K E)) → Turned ends now xs p r ys q → Placed p q r
   placed xs ys p q r d = let e = d.who in rw (d.told, d.places) (placed_by p e (holding e (ends.polled e.endpoint now).after) e.cancelled (ends.polled e.endpoint now).answer)
 
-module _ {K S Q A E W : Type 0} (keys : Sameness K) (ends : Endpoints S Q A E W) (now capacity end : ℕ) where
+module _ {K S Q A E W : Type 0} (keys : Sameness K) (ends : Endpoints S Q A E W) (now : ℕ) where
   abbrev stopped : List (Entry K S) → List (Entry K S) → Places → PendingError K E → Ended K S E
-  stopped xs ys q x = record { ready = take q.ready xs; kept = take q.write ys; rest = drop q.read (take end ys); fault = Some x }
+  stopped xs ys q x = record { ready = take q.ready xs; kept = take q.write ys; rest = drop q.read ys; fault = Some x }
 
   -- what is left of a pass after a turn
   abbrev pub goes_on : List (Entry K S) → List (Entry K S) → Places → Result (Option (Entry K S)) (Failure K E) → Ended K S E
-  goes_on xs ys q (Ok None) = left_of keys ends now capacity end xs ys q
+  goes_on xs ys q (Ok None) = left_of keys ends now xs ys q
   goes_on xs ys q (Ok (Some e)) =
-      cond (has_place keys capacity (take q.ready xs) e.key)
-      (ended (pass keys ends now capacity (promote keys e (take q.ready xs)) (take q.write ys) (drop (q.read + 1) (take end ys))))
+      cond (has_place keys (length xs) (take q.ready xs) e.key)
+      (ended (pass keys ends now (length xs) (promote keys e (take q.ready xs)) (take q.write ys) (drop (q.read + 1) ys)))
       (stopped xs ys q (error.NoPlace e.key))
   goes_on xs ys q (Err f) = stopped xs ys q (error.Failed f)
 
-  module _ (xs ys : List (Entry K S)) (p : Places) (behind : p.write ≤ p.read) (more : p.read < end) (long : end ≤ length ys) (e : Entry K S) where
+  module _ (xs ys : List (Entry K S)) (p : Places) (behind : p.write ≤ p.read) (more : p.read < length ys) (e : Entry K S) where
     abbrev rest : List (Entry K S)
-    rest = drop (p.read + 1) (take end ys)
+    rest = drop (p.read + 1) ys
 
     front_kept : (f : Entry K S) → take p.write ys ≡ take p.write (set ys p.read f)
     front_kept f = sym (take-set-le p.write ys p.read f behind)
 
-    rest_kept : (f : Entry K S) → rest ≡ drop (p.read + 1) (take end (set ys p.read f))
-    rest_kept f = sym (drop_after ys end (p.read + 1) p.read f (omega arith))
+    rest_kept : (f : Entry K S) → rest ≡ drop (p.read + 1) (set ys p.read f)
+    rest_kept f = sym (drop-set-lt (p.read + 1) ys p.read f (omega arith))
 
-    asked_here : (f : Entry K S) → f ∷ rest ≡ drop p.read (take end (set ys p.read f))
+    asked_here : (f : Entry K S) → f ∷ rest ≡ drop p.read (set ys p.read f)
     asked_here f =
-        let l : end ≤ length (set ys p.read f) = simp length-set long in
-        ap (λ z. f ∷ z) (rest_kept f) ∙ sym (drop_here (set ys p.read f) end p.read f more l (sym (get_or-set_same ys p.read f f (omega arith))))
+        let l : p.read < length (set ys p.read f) = simp length-set more in
+        ap (λ z. f ∷ z) (rest_kept f) ∙ sym (drop_here (set ys p.read f) p.read f l (sym (get_or-set_same ys p.read f f more)))
 
     by_place : (f : Entry K S) (b : Bool) →
-        ended (cond b (pass keys ends now capacity (promote keys f (take p.ready xs)) (take p.write ys) rest) (record { ready = take p.ready xs; kept = take p.write ys; rest = f ∷ rest; fault = Some (error.NoPlace e.key); asked = [] }))
-        ≡ cond b (ended (pass keys ends now capacity (promote keys f (take p.ready xs)) (take p.write (set ys p.read f)) (drop (p.read + 1) (take end (set ys p.read f))))) (stopped xs (set ys p.read f) p (error.NoPlace e.key))
+        ended (cond b (pass keys ends now (length xs) (promote keys f (take p.ready xs)) (take p.write ys) rest) (record { ready = take p.ready xs; kept = take p.write ys; rest = f ∷ rest; fault = Some (error.NoPlace e.key); asked = [] }))
+        ≡ cond b (ended (pass keys ends now (length xs) (promote keys f (take p.ready xs)) (take p.write (set ys p.read f)) (drop (p.read + 1) (set ys p.read f)))) (stopped xs (set ys p.read f) p (error.NoPlace e.key))
     by_place f true =
-        ap (λ z. ended (pass keys ends now capacity (promote keys f (take p.ready xs)) z rest)) (front_kept f)
-        ∙ ap (λ z. ended (pass keys ends now capacity (promote keys f (take p.ready xs)) (take p.write (set ys p.read f)) z)) (rest_kept f)
+        ap (λ z. ended (pass keys ends now (length xs) (promote keys f (take p.ready xs)) z rest)) (front_kept f)
+        ∙ ap (λ z. ended (pass keys ends now (length xs) (promote keys f (take p.ready xs)) (take p.write (set ys p.read f)) z)) (rest_kept f)
     by_place f false =
         ap (λ z. record { ready = take p.ready xs; kept = z; rest = f ∷ rest; fault = Some (error.NoPlace e.key) }) (front_kept f)
         ∙ ap (λ z. record { ready = take p.ready xs; kept = take p.write (set ys p.read f); rest = z; fault = Some (error.NoPlace e.key) }) (asked_here f)
 
     by_turn : (f : Entry K S) (question : Question E) (b : Bool) (a : Readiness E) → f.key ≡ e.key →
-        ended (cond b (pass keys ends now capacity (take p.ready xs) (take p.write ys) rest)
+        ended (cond b (pass keys ends now (length xs) (take p.ready xs) (take p.write ys) rest)
         (asking_first question (by_readiness a
-        (cond (has_place keys capacity (take p.ready xs) e.key)
-        (pass keys ends now capacity (promote keys f (take p.ready xs)) (take p.write ys) rest)
+        (cond (has_place keys (length xs) (take p.ready xs) e.key)
+        (pass keys ends now (length xs) (promote keys f (take p.ready xs)) (take p.write ys) rest)
         (record { ready = take p.ready xs; kept = take p.write ys; rest = f ∷ rest; fault = Some (error.NoPlace e.key); asked = [] }))
-        (pass keys ends now capacity (take p.ready xs) (take p.write ys ++ (f ∷ [])) rest)
+        (pass keys ends now (length xs) (take p.ready xs) (take p.write ys ++ (f ∷ [])) rest)
         (λ x. record { ready = take p.ready xs; kept = take p.write ys; rest = rest; fault = Some (error.Failed (record { key = e.key; error = x })); asked = [] }))))
         ≡ goes_on xs (cond b ys (by_readiness a (set ys p.read f) (set (set ys p.read f) p.write f) (λ _. set ys p.read f))) (cond b (over p) (by_readiness a p (kept p) (λ _. over p))) (cond b (Ok None) (by_readiness a (Ok (Some f)) (Ok None) (λ x. Err (record { key = e.key; error = x }))))
     by_turn f question true a k = refl
     by_turn f question false Ready k =
-        by_place f (has_place keys capacity (take p.ready xs) e.key)
-        ∙ ap (λ z. cond (has_place keys capacity (take p.ready xs) z) (ended (pass keys ends now capacity (promote keys f (take p.ready xs)) (take p.write (set ys p.read f)) (drop (p.read + 1) (take end (set ys p.read f))))) (stopped xs (set ys p.read f) p (error.NoPlace z))) (sym k)
+        by_place f (has_place keys (length xs) (take p.ready xs) e.key)
+        ∙ ap (λ z. cond (has_place keys (length xs) (take p.ready xs) z) (ended (pass keys ends now (length xs) (promote keys f (take p.ready xs)) (take p.write (set ys p.read f)) (drop (p.read + 1) (set ys p.read f)))) (stopped xs (set ys p.read f) p (error.NoPlace z))) (sym k)
     by_turn f question false Pending k =
         let zs = set ys p.read f in
         let l : p.write < length zs = simp length-set (omega arith) in
-        ap (λ z. ended (pass keys ends now capacity (take p.ready xs) z rest)) (ap (λ z. z ++ (f ∷ [])) (front_kept f) ∙ sym (take_more_set zs p.write f l))
-        ∙ ap (λ z. ended (pass keys ends now capacity (take p.ready xs) (take (p.write + 1) (set zs p.write f)) z)) (rest_kept f ∙ sym (drop_after zs end (p.read + 1) p.write f (omega arith)))
+        ap (λ z. ended (pass keys ends now (length xs) (take p.ready xs) z rest)) (ap (λ z. z ++ (f ∷ [])) (front_kept f) ∙ sym (take_more_set zs p.write f l))
+        ∙ ap (λ z. ended (pass keys ends now (length xs) (take p.ready xs) (take (p.write + 1) (set zs p.write f)) z)) (rest_kept f ∙ sym (drop-set-lt (p.read + 1) zs p.write f (omega arith)))
     by_turn f question false (Failed x) k =
         ap (λ z. record { ready = take p.ready xs; kept = z; rest = rest; fault = Some (error.Failed (record { key = e.key; error = x })) }) (front_kept f)
         ∙ ap (λ z. record { ready = take p.ready xs; kept = take p.write (set ys p.read f); rest = z; fault = Some (error.Failed (record { key = e.key; error = x })) }) (rest_kept f)
 
-  pub turn_left : (xs ys zs : List (Entry K S)) (p q : Places) (r : Result (Option (Entry K S)) (Failure K E)) → p.write ≤ p.read → p.read < end → end ≤ length ys → Turned ends now ys p r zs q → left_of keys ends now capacity end xs ys p ≡ goes_on xs zs q r
-  turn_left xs ys zs p q r behind more long d =
+  pub turn_left : (xs ys zs : List (Entry K S)) (p q : Places) (r : Result (Option (Entry K S)) (Failure K E)) → p.write ≤ p.read → p.read < length ys → Turned ends now ys p r zs q → left_of keys ends now xs ys p ≡ goes_on xs zs q r
+  turn_left xs ys zs p q r behind more d =
       let e = d.who in
       let left = ends.polled e.endpoint now in
       let f : Entry K S = holding e left.after in
-      ap (λ z. ended (pass keys ends now capacity (take p.ready xs) (take p.write ys) z)) (drop_here ys end p.read e more long d.there)
-      ∙ by_turn xs ys p behind more long e f (record { serial = e.serial; answer = left.answer }) e.cancelled left.answer refl
+      ap (λ z. ended (pass keys ends now (length xs) (take p.ready xs) (take p.write ys) z)) (drop_here ys p.read e more d.there)
+      ∙ by_turn xs ys p behind more e f (record { serial = e.serial; answer = left.answer }) e.cancelled left.answer refl
       ∙ rw (d.memory, d.places, d.told) refl
 
   -- ---- the pass
 
-  pub ends_as : (xs ys xs' ys' : List (Entry K S)) (p q : Places) (r r' : Result (Unit {0}) (PendingError K E)) → r ≡ r' → Ends keys ends now capacity end xs ys xs' ys' p q r → Ends keys ends now capacity end xs ys xs' ys' p q r'
-  ends_as xs ys xs' ys' p q r r' h d = subst (λ z. Ends keys ends now capacity end xs ys xs' ys' p q z) h d
+  pub ends_as : (xs ys xs' ys' : List (Entry K S)) (p q : Places) (r r' : Result (Unit {0}) (PendingError K E)) → r ≡ r' → Ends keys ends now xs ys xs' ys' p q r → Ends keys ends now xs ys xs' ys' p q r'
+  ends_as xs ys xs' ys' p q r r' h d = subst (λ z. Ends keys ends now xs ys xs' ys' p q z) h d
 
-  module _ (xs ys xs' ys' : List (Entry K S)) (p₀ p : Places) (now_at : Went keys ends now capacity end xs ys xs' ys' p₀ p) (same : left_of keys ends now capacity end xs' ys' p ≡ left_of keys ends now capacity end xs ys p₀) (long : end ≤ length ys) where
-    -- it came to the end
-    pub at_end : end ≤ p.read → Ends keys ends now capacity end xs ys xs' ys' p₀ p (Ok tt)
-    at_end done =
-        let len : length (take end ys') ≡ end = length-take-le end ys' (omega (arith, now_at.pending_long)) in
-        let none : drop p.read (take end ys') ≡ [] = drop_all p.read (take end ys') (omega arith) in
-        record {
-          went = now_at;
-          done = λ _. done;
-          same =
-              sym same
-              ∙ ap (λ z. ended (pass keys ends now capacity (take p.ready xs') (take p.write ys') z)) none
-              ∙ ap (λ z. record { ready = take p.ready xs'; kept = take p.write ys'; rest = z; fault = None }) (sym none);
-        }
-
-    module _ (more : p.read < end) (zs : List (Entry K S)) (q : Places) (as_long : length zs ≡ length ys') where
-      goes : (r : Result (Option (Entry K S)) (Failure K E)) → Turned ends now ys' p r zs q → goes_on xs' zs q r ≡ left_of keys ends now capacity end xs ys p₀
-      goes r d =
-          let l : end ≤ length ys' = omega (arith, now_at.pending_long) in
-          sym (turn_left xs' ys' zs p q r now_at.behind more l d) ∙ same
+  module _ (xs ys xs' ys' : List (Entry K S)) (p₀ p : Places) (now_at : Went keys ends now xs ys xs' ys' p₀ p) (same : left_of keys ends now xs' ys' p ≡ left_of keys ends now xs ys p₀) where
+    module _ (more : p.read < length ys) (zs : List (Entry K S)) (q : Places) (as_long : length zs ≡ length ys') where
+      goes : (r : Result (Option (Entry K S)) (Failure K E)) → Turned ends now ys' p r zs q → goes_on xs' zs q r ≡ left_of keys ends now xs ys p₀
+      goes r d = sym (turn_left xs' ys' zs p q r now_at.behind (omega (arith, now_at.pending_long)) d) ∙ same
 
       -- the next one left or stayed
-      pub step_none : Turned ends now ys' p (Ok None) zs q → Went keys ends now capacity end xs ys xs' zs p₀ q × (left_of keys ends now capacity end xs' zs q ≡ left_of keys ends now capacity end xs ys p₀)
+      pub step_none : Turned ends now ys' p (Ok None) zs q → Went keys ends now xs ys xs' zs p₀ q × (left_of keys ends now xs' zs q ≡ left_of keys ends now xs ys p₀) × (q.read ≡ p.read + 1)
       step_none d =
           let at = placed ends now ys' zs p q (Ok None) d in (
             record {
@@ -234,10 +202,11 @@ module _ {K S Q A E W : Type 0} (keys : Sameness K) (ends : Endpoints S Q A E W)
               pending_long = as_long ∙ now_at.pending_long;
             },
             goes (Ok None) d,
+            at.1,
           )
 
       -- it failed
-      pub step_failed : (f : Failure K E) → Turned ends now ys' p (Err f) zs q → Ends keys ends now capacity end xs ys xs' zs p₀ q (Err (error.Failed f))
+      pub step_failed : (f : Failure K E) → Turned ends now ys' p (Err f) zs q → Ends keys ends now xs ys xs' zs p₀ q (Err (error.Failed f))
       step_failed f d =
           let at : q ≡ over p = placed ends now ys' zs p q (Err f) d in
           let a : q.ready ≡ p.ready = ap (λ z. z.ready) at in
@@ -261,27 +230,29 @@ module _ {K S Q A E W : Type 0} (keys : Sameness K) (ends : Endpoints S Q A E W)
         same_places = placed ends now ys' zs p q (Ok (Some e)) d
 
         -- it joined the ready ones
-        pub step_ready : (n : ℕ) → Promoted keys capacity e xs' q.ready ws n → let next : Places = record { ready = n; read = q.read + 1; write = q.write } in Went keys ends now capacity end xs ys ws zs p₀ next × (left_of keys ends now capacity end ws zs next ≡ left_of keys ends now capacity end xs ys p₀)
+        pub step_ready : (n : ℕ) → Promoted keys e xs' q.ready ws n → let next : Places = record { ready = n; read = q.read + 1; write = q.write } in Went keys ends now xs ys ws zs p₀ next × (left_of keys ends now ws zs next ≡ left_of keys ends now xs ys p₀) × (q.read ≡ p.read)
         step_ready n t =
             let a : q.ready ≡ p.ready = ap (λ z. z.ready) same_places in
             let b : q.read ≡ p.read = ap (λ z. z.read) same_places in
             let c : q.write ≡ p.write = ap (λ z. z.write) same_places in
-            let yes_place : has_place keys capacity (take q.ready xs') e.key ≡ true = t.place in (
+            let yes_place : has_place keys (length xs') (take q.ready xs') e.key ≡ true = t.place in (
               record {
                 behind = omega (arith, now_at.behind);
                 within = omega arith;
-                fits = t.within;
+                fits = omega (arith, now_at.ready_long, t.within);
                 roomy = omega (arith, now_at.roomy, t.most);
                 ready_long = as_wide ∙ now_at.ready_long;
                 pending_long = as_long ∙ now_at.pending_long;
               },
-              ap (λ z. ended (pass keys ends now capacity z (take q.write zs) (drop (q.read + 1) (take end zs)))) t.list
-                  ∙ sym (cond-true (has_place keys capacity (take q.ready xs') e.key) _ _ yes_place)
+              ap (λ m. ended (pass keys ends now m (take n ws) (take q.write zs) (drop (q.read + 1) zs))) as_wide
+                  ∙ ap (λ z. ended (pass keys ends now (length xs') z (take q.write zs) (drop (q.read + 1) zs))) t.list
+                  ∙ sym (cond-true (has_place keys (length xs') (take q.ready xs') e.key) _ _ yes_place)
                   ∙ goes (Ok (Some e)) d,
+              b,
             )
 
         -- it had no place among them
-        pub step_refused : (x : PendingError K E) → Refused keys capacity e xs' q.ready ws x → Ends keys ends now capacity end xs ys ws zs p₀ q (Err x)
+        pub step_refused : (x : PendingError K E) → Refused keys e xs' q.ready ws x → Ends keys ends now xs ys ws zs p₀ q (Err x)
         step_refused x t =
             let a : q.ready ≡ p.ready = ap (λ z. z.ready) same_places in
             let b : q.read ≡ p.read = ap (λ z. z.read) same_places in
@@ -298,7 +269,7 @@ module _ {K S Q A E W : Type 0} (keys : Sameness K) (ends : Endpoints S Q A E W)
               done = λ h. let z : ◌≡◌ {A = ℕ} 0 1 = cc in absurd (omega arith);
               same =
                   sym (goes (Ok (Some e)) d)
-                  ∙ cond-false (has_place keys capacity (take q.ready xs') e.key) _ _ t.place
+                  ∙ cond-false (has_place keys (length xs') (take q.ready xs') e.key) _ _ t.place
                   ∙ ap (stopped xs' zs q) (sym t.fault)
                   ∙ ap (λ z. stopped z zs q x) (sym t.same);
             }

@@ -1,6 +1,8 @@
 -- What a pass that ended leaves of the cache.
-use Rattle.std.proofs.Common.{◌≡◌, ℕ, zero, suc, ◌+◌, ◌-◌, ◌<◌, ◌≤◌, min, List, [], ◌∷◌, ◌++◌, length, take, drop, Ok, Err, Result, sym, refl, ap, ◌∙◌, subst, ⊎_elim, arith}
-use Rattle.std.proofs.lemmas.List.{length-take-le, drop_all, take-take, take_all}
+use Rattle.std.proofs.Common.{◌≡◌, ℕ, zero, suc, ◌+◌, ◌-◌, ◌<◌, ◌≤◌, min, List, [], ◌∷◌, ◌++◌, length, take, drop, Ok, Err, Result, sym, refl, ap, ap₂, ◌∙◌, ⊎_elim, arith}
+use Rattle.std.specs.List.{copy_within}
+use Rattle.std.proofs.lemmas.List.{length-take-le, length-append, length-drop, drop_all, take-take, take_all, take_at, take-append-le, drop-append-le}
+use Rattle.std.proofs.lemmas.List.Edits.{take-paste}
 use Rattle.std.proofs.lemmas.Bool.{cases_lt}
 use Rattle.model.specs.Options.{by_some}
 use Rattle.service.specs.Meaning.{Sameness, Endpoints}
@@ -10,9 +12,8 @@ use Rattle.cache_model.specs.declared.entry.Entry.{Entry}
 use Rattle.cache_model.specs.declared.error.PendingError.{PendingError}
 use Rattle.cache_model.specs.Cache.{Cache, capacity_of, emptied, pass, poll_pending}
 use Rattle.ready_cache.specs.declared.places.Places.{Places}
-use Rattle.ready_cache.specs.View.{stored, cut}
-use Rattle.ready_cache.specs.Passing.{Ended, ended, fault_of, left_of, Ends}
-use Rattle.ready_cache.proofs.Views.{listed, leaves}
+use Rattle.ready_cache.specs.Passing.{Ended, ended, fault_of, Ends}
+use Rattle.ready_cache.proofs.Views.{seen}
 
 pub emptied_none : {A : Type 0} (xs : List A) (n : ℕ) → n ≡ 0 → emptied (take n xs) ≡ poll.Ready tt
 emptied_none xs zero h = refl
@@ -23,25 +24,31 @@ emptied_some xs zero l h = absurd (omega arith)
 emptied_some [] (suc n) l h = absurd (omega arith)
 emptied_some (x ∷ xs) (suc n) l h = refl
 
+-- the gap between w and r is closed: ys stood at the front of the memory, and D past it
+closed : {A : Type 0} (ys D : List A) (n r w : ℕ) → length ys ≡ n → w ≤ r → r ≤ n → take (w + (n - r)) (copy_within (ys ++ D) r n w) ≡ take w ys ++ drop r ys
+closed ys D n r w e h k =
+    let long : length (drop r (ys ++ D)) ≡ length ys + length D - r = length-drop r (ys ++ D) ∙ ap (λ m. m - r) (length-append ys D) in
+    take-paste (ys ++ D) w (drop r (ys ++ D)) (n - r) (omega (arith, length-append ys D)) (omega (arith, long))
+    ∙ ap₂ (λ a b. a ++ b)
+    (take-append-le w ys D (omega arith))
+    (ap (take (n - r)) (drop-append-le r ys D (omega arith)) ∙ take_at (drop r ys) D (n - r) (length-drop r ys ∙ ap (λ m. m - r) e))
+
 module _ {K S Q A E W : Type 0} (keys : Sameness K) (ends : Endpoints S Q A E W) (now : ℕ) where
   abbrev start : ℕ → ℕ → Places
   start r from = record { ready = r; read = from; write = from }
 
   -- the pass of the model starts where the code does
-  resumed : (xs ys : List (Entry K S)) (r n resume capacity : ℕ) → n ≤ length ys → ended (pass keys ends now capacity (take r xs) (take resume (take n ys)) (drop resume (take n ys))) ≡ left_of keys ends now capacity n xs ys (start r (min resume n))
-  resumed xs ys r n resume capacity l =
-      let len : length (take n ys) ≡ n = length-take-le n ys l in
+  resumed : (xs ys : List (Entry K S)) (r resume capacity : ℕ) → ended (pass keys ends now capacity (take r xs) (take resume ys) (drop resume ys)) ≡ ended (pass keys ends now capacity (take r xs) (take (min resume (length ys)) ys) (drop (min resume (length ys)) ys))
+  resumed xs ys r resume capacity =
       ⊎_elim
-      (λ (h : resume < n).
-      (let e : min resume n ≡ resume = omega arith in
-      ap (λ z. ended (pass keys ends now capacity (take r xs) z (drop resume (take n ys)))) (take-take resume n ys (omega arith))
-      ∙ ap (λ z. left_of keys ends now capacity n xs ys (start r z)) (sym e)))
-      (λ (h : n ≤ resume).
-      (let e : min resume n ≡ n = omega arith in
-      ap (λ z. ended (pass keys ends now capacity (take r xs) z (drop resume (take n ys)))) (take_all resume (take n ys) (omega arith))
-      ∙ ap (λ z. ended (pass keys ends now capacity (take r xs) (take n ys) z)) (drop_all resume (take n ys) (omega arith) ∙ sym (drop_all n (take n ys) (omega arith)))
-      ∙ ap (λ z. left_of keys ends now capacity n xs ys (start r z)) (sym e)))
-      (cases_lt resume n)
+      (λ (h : resume < length ys).
+      (let e : min resume (length ys) ≡ resume = omega arith in
+      ap (λ z. ended (pass keys ends now capacity (take r xs) (take z ys) (drop z ys))) (sym e)))
+      (λ (h : length ys ≤ resume).
+      (let e : min resume (length ys) ≡ length ys = omega arith in
+      ap₂ (λ a b. ended (pass keys ends now capacity (take r xs) a b)) (take_all resume ys h ∙ sym (take_all (length ys) ys (omega arith))) (drop_all resume ys h ∙ sym (drop_all (length ys) ys (omega arith)))
+      ∙ ap (λ z. ended (pass keys ends now capacity (take r xs) (take z ys) (drop z ys))) (sym e)))
+      (cases_lt resume (length ys))
 
   abbrev answer_of : Ended K S E → Result (Poll (Unit {0})) (PendingError K E)
   answer_of p = by_some p.fault (Ok (emptied p.kept)) Err
@@ -49,43 +56,63 @@ module _ {K S Q A E W : Type 0} (keys : Sameness K) (ends : Endpoints S Q A E W)
   abbrev after_of : ℕ → ℕ → Ended K S E → Cache K S
   after_of next capacity p = record { ready = p.ready; pending = p.kept ++ p.rest; next = next; resume = by_some p.fault 0 (λ _. length p.kept); capacity = capacity }
 
-  module _ (v : Cache K S) (xs ys xs' ys' zs : List (Entry K S)) (r n next resume : ℕ) (q : Places) (res : Result (Unit {0}) (PendingError K E)) (from left capacity : ℕ)
-      (lists : v ≡ stored xs ys r n next resume)
+  -- in memory xs and ys, where r are ready and n pending, a pass from `from` on came to the places q and left xs' and ys' of the two lists
+  module _ (xs ys xs' ys' : List (Entry K S)) (r n next resume from capacity : ℕ) (q : Places) (res : Result (Unit {0}) (PendingError K E))
+      (bound : capacity ≡ capacity_of (length xs) (length ys))
       (fits : r + n ≤ capacity_of (length xs) (length ys))
       (begins : from ≡ min resume n)
-      (bound : capacity ≡ capacity_of (length xs) (length ys))
-      (ended_there : Ends keys ends now capacity n xs ys xs' ys' (start r from) q res)
-      (as_long : length zs ≡ length ys')
-      (closed : take left zs ≡ take q.write ys' ++ drop q.read (take n ys'))
-      (count : left ≡ q.write + (n - q.read)) where
-    over : Ends keys ends now (capacity_of (length xs) (length ys)) n xs ys xs' ys' (start r from) q res
-    over = subst (λ z. Ends keys ends now z n xs ys xs' ys' (start r from) q res) bound ended_there
+      (over : Ends keys ends now (take capacity xs) (take n ys) xs' ys' (start r from) q res) where
+    abbrev v : Cache K S
+    v = seen xs ys r n next resume
 
     abbrev close : Ended K S E
-    close = record { ready = take q.ready xs'; kept = take q.write ys'; rest = drop q.read (take n ys'); fault = fault_of res }
+    close = record { ready = take q.ready xs'; kept = take q.write ys'; rest = drop q.read ys'; fault = fault_of res }
+
+    wide : length (take capacity xs) ≡ capacity
+    wide = length-take-le capacity xs (omega arith)
+
+    long : length (take n ys) ≡ n
+    long = length-take-le n ys (omega arith)
 
     is : ended (pass keys ends now (capacity_of (length xs) (length ys)) (take r xs) (take resume (take n ys)) (drop resume (take n ys))) ≡ close
     is =
-        resumed xs ys r n resume (capacity_of (length xs) (length ys)) (omega arith)
-        ∙ ap (λ z. left_of keys ends now (capacity_of (length xs) (length ys)) n xs ys (start r z)) (sym begins)
+        resumed xs (take n ys) r resume (capacity_of (length xs) (length ys))
+        ∙ ap (λ m. ended (pass keys ends now (capacity_of (length xs) (length ys)) (take r xs) (take (min resume m) (take n ys)) (drop (min resume m) (take n ys)))) long
+        ∙ ap (λ z. ended (pass keys ends now (capacity_of (length xs) (length ys)) (take r xs) (take z (take n ys)) (drop z (take n ys)))) (sym begins)
+        ∙ ap₂ (λ m z. ended (pass keys ends now m z (take from (take n ys)) (drop from (take n ys)))) (sym bound ∙ sym wide) (sym (take-take r capacity xs (omega arith)))
         ∙ over.same
 
     kept_long : q.write ≤ length ys'
     kept_long = omega (arith, over.went.behind, over.went.within, over.went.pending_long)
 
-    pub poll_answer : answer_of close ≡ (poll_pending keys ends now v).answer
-    poll_answer = ap answer_of (sym is) ∙ ap (λ (w : Cache K S). (poll_pending keys ends now w).answer) (sym lists)
+    poll_answer : answer_of close ≡ (poll_pending keys ends now v).answer
+    poll_answer = ap answer_of (sym is)
 
-    pub poll_after : (next' resume' : ℕ) → next' ≡ next → resume' ≡ by_some (fault_of res) 0 (λ _. q.write) → cut xs' zs q.ready left next' resume' ≡ (poll_pending keys ends now v).after
-    poll_after next' resume' hn hr =
+    -- the memory then: the gap in the pending list is closed
+    abbrev ready_memory : List (Entry K S)
+    ready_memory = xs' ++ drop capacity xs
+
+    abbrev pending_memory : List (Entry K S)
+    pending_memory = ys' ++ drop n ys
+
+    abbrev left : ℕ
+    left = q.write + (n - q.read)
+
+    poll_after : (zs : List (Entry K S)) (resume' : ℕ) → length zs ≡ length pending_memory → zs ≡ copy_within pending_memory q.read n q.write → resume' ≡ by_some (fault_of res) 0 (λ _. q.write) → seen ready_memory zs q.ready left next resume' ≡ (poll_pending keys ends now v).after
+    poll_after zs resume' lz ez hr =
         let w = over.went in
-        let n₀ = capacity_of (length xs) (length ys) in
-        let long : length (take q.write ys') ≡ q.write = length-take-le q.write ys' kept_long in
-        let rs = take q.ready xs' in
-        let ps = take q.write ys' ++ drop q.read (take n ys') in
-        leaves xs ys xs' zs rs ps q.ready left next' resume' w.ready_long (as_long ∙ w.pending_long) (omega (arith, w.roomy)) refl closed
-        ∙ ap (λ z. listed rs ps z resume' n₀) hn
-        ∙ ap (λ z. listed rs ps next z n₀) hr
-        ∙ ap (λ z. listed rs ps next (by_some (fault_of res) 0 (λ _. z)) n₀) (sym long)
-        ∙ ap (after_of next n₀) (sym is)
-        ∙ ap (λ (w : Cache K S). (poll_pending keys ends now w).after) (sym lists)
+        let lx : length ready_memory ≡ length xs = length-append xs' (drop capacity xs) ∙ ap₂ (λ a b. a + b) (w.ready_long ∙ wide) (length-drop capacity xs) ∙ omega arith in
+        let ly : length zs ≡ length ys = lz ∙ length-append ys' (drop n ys) ∙ ap₂ (λ a b. a + b) (w.pending_long ∙ long) (length-drop n ys) ∙ omega arith in
+        let front : take q.ready ready_memory ≡ take q.ready xs' = take-append-le q.ready xs' (drop capacity xs) (omega (arith, w.fits, w.ready_long)) in
+        let back : take left zs ≡ take q.write ys' ++ drop q.read ys' = ap (take left) ez ∙ closed ys' (drop n ys) n q.read q.write (w.pending_long ∙ long) w.behind (omega (arith, w.within, long)) in
+        let kept : length (take q.write ys') ≡ q.write = length-take-le q.write ys' kept_long in
+        rw (lx, ly, front, back)
+        (ap (λ z. record { ready = take q.ready xs'; pending = take q.write ys' ++ drop q.read ys'; next = next; resume = z; capacity = capacity_of (length xs) (length ys) }) (hr ∙ ap (λ z. by_some (fault_of res) 0 (λ _. z)) (sym kept))
+        ∙ ap (after_of next (capacity_of (length xs) (length ys))) (sym is))
+
+    -- all three: how long what stays is, what is answered, and what is left
+    pub poll_told :
+        (q.write ≤ length ys')
+        × (answer_of close ≡ (poll_pending keys ends now v).answer)
+        × ((zs : List (Entry K S)) (resume' : ℕ) → length zs ≡ length pending_memory → zs ≡ copy_within pending_memory q.read n q.write → resume' ≡ by_some (fault_of res) 0 (λ _. q.write) → seen ready_memory zs q.ready left next resume' ≡ (poll_pending keys ends now v).after)
+    poll_told = (kept_long, poll_answer, poll_after)

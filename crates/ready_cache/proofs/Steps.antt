@@ -1,7 +1,7 @@
 -- Steps of the model, from what their parts answer and leave.
-use Rattle.std.proofs.Common.{◌≡◌, ℕ, Bool, true, false, cond, ◌||◌, List, [], set, is_some, Some, None, Ok, Err, Option, Result, sym, refl, ap, ◌∙◌, arith}
+use Rattle.std.proofs.Common.{◌≡◌, ℕ, Bool, true, false, cond, List, [], set, is_some, Some, None, Ok, Err, Option, Result, sym, refl, ap, ◌∙◌, arith}
 use Rattle.std.proofs.lemmas.List.{append-nil}
-use Rattle.model.specs.Outcome.{Outcome, outcome}
+use Rattle.model.specs.Outcome.{outcome}
 use Rattle.model.specs.Options.{by_some}
 use Rattle.model.specs.Lists.{at, swap_remove, place_of}
 use Rattle.lists.proofs.Places.{at_set, swap_remove_set, not_found}
@@ -14,15 +14,11 @@ use Rattle.cache_model.specs.declared.error.Failed.{Failed as Failure}
 use Rattle.cache_model.specs.declared.error.CallRefusal.{CallRefusal}
 use Rattle.cache_model.specs.declared.error.CallRefusal.TheVariants.{NotReady}
 use Rattle.cache_model.specs.Answers.{as_call, by_readiness}
-use Rattle.cache_model.specs.Entries.{holding, has_serial, set_aside, any_live, cancel, ready_place}
-use Rattle.cache_model.specs.Cache.{Cache, Asked, with_lists, load, evict, check, call, finish, finish_in}
+use Rattle.cache_model.specs.Entries.{holding, has_serial, set_aside}
+use Rattle.cache_model.specs.Cache.{Cache, Asked, with_lists, check, call, finish, finish_in}
 use Rattle.entries.specs.Asking.{told}
-use Rattle.ready_cache.proofs.Views.{wrote}
 use Rattle.entries.proofs.Lists.{finish_is}
-
-by_some_map : {A B C : Type 0} (h : B → C) (o : Option A) (b : B) (f : A → B) → h (by_some o b f) ≡ by_some o (h b) (λ a. h (f a))
-by_some_map h None b f = refl
-by_some_map h (Some a) b f = refl
+use Rattle.ready_cache.proofs.Views.{wrote}
 
 -- ---- one question
 
@@ -55,9 +51,6 @@ module _ {K S : Type 0} (v : Cache K S) (i : ℕ) where
   module _ (keys : Sameness K) where
     abbrev pub demoted : Cache K S → Cache K S
     demoted w = by_some (at w.ready i) w (λ e. with_lists w (swap_remove w.ready i) (set_aside keys e w.pending))
-
-    pub demoted_none : at v.ready i ≡ None → demoted v ≡ v
-    demoted_none h = rw h refl
 
     pub demoted_after : (e f : Entry K S) (w : Cache K S) → at v.ready i ≡ Some e → w ≡ with_lists v (set v.ready i f) v.pending → demoted w ≡ with_lists v (swap_remove v.ready i) (set_aside keys f v.pending)
     demoted_after e f w there is =
@@ -114,24 +107,12 @@ module _ {K S : Type 0} (v : Cache K S) (i : ℕ) where
       pub call_is : (q : Q) (e : Entry K S) → at v.ready i ≡ Some e → refused_by ends e.endpoint ≡ None → call keys ends now v i q ≡ outcome (Ok (ends.accepted e.endpoint q now).answer) (with_lists v (swap_remove v.ready i) (set_aside keys (taken q e) v.pending))
       call_is q e there may = rw (there, may) refl
 
--- ---- the weight of an entry
-
-module _ {K S Q A E W : Type 0} (ends : Endpoints S Q A E W) (now : ℕ) (v : Cache K S) (i : ℕ) where
-  pub load_answer : (load ends now v i).answer ≡ by_some (at v.ready i) None (λ e. Some (ends.weight e.endpoint now))
-  load_answer = by_some_map (λ (x : Outcome (Option W) (Cache K S)). x.answer) (at v.ready i) _ _
-
-  pub load_after : (load ends now v i).after ≡ wrote v i (λ e. holding e (ends.loaded e.endpoint now)) (at v.ready i)
-  load_after = by_some_map (λ (x : Outcome (Option W) (Cache K S)). x.after) (at v.ready i) _ _
-
 -- ---- the end of a request
 
 module _ {K S Q A E W : Type 0} (ends : Endpoints S Q A E W) (now serial sent : ℕ) where
   finish_none : (es : List (Entry K S)) (o : Option ℕ) → place_of (has_serial serial) es ≡ o → is_some o ≡ false → finish_in ends now es serial sent ≡ es
   finish_none es None h s = finish_is ends now es serial sent ∙ not_found (has_serial serial) (λ e. holding e (ends.finished e.endpoint sent now)) [] es h ∙ append-nil es
   finish_none es (Some i) h s = let z : ◌≡◌ {A = ℕ} 0 1 = cc in absurd (omega arith)
-
-  pub finish_ready : (v : Cache K S) → is_some (place_of (has_serial serial) v.ready) ≡ true → finish ends now v serial sent ≡ outcome true (with_lists v (finish_in ends now v.ready serial sent) v.pending)
-  finish_ready v h = rw h refl
 
   pub finish_pending : (v : Cache K S) → is_some (place_of (has_serial serial) v.ready) ≡ false → finish ends now v serial sent ≡ outcome (is_some (place_of (has_serial serial) v.pending)) (with_lists v (finish_in ends now v.ready serial sent) (finish_in ends now v.pending serial sent))
   finish_pending v h =
@@ -141,20 +122,3 @@ module _ {K S Q A E W : Type 0} (ends : Endpoints S Q A E W) (now serial sent : 
       go : (b : Bool) → is_some (place_of (has_serial serial) v.pending) ≡ b → cond b (outcome true (with_lists v v.ready (finish_in ends now v.pending serial sent))) (outcome false v) ≡ outcome b (with_lists v v.ready (finish_in ends now v.pending serial sent))
       go true s = refl
       go false s = ap (λ z. outcome false (with_lists v v.ready z)) (sym (finish_none v.pending (place_of (has_serial serial) v.pending) refl s))
-
--- ---- evict
-
-module _ {K S : Type 0} (keys : Sameness K) (k : K) (v : Cache K S) where
-  or_true : (b : Bool) → true ≡ b || true
-  or_true true = refl
-  or_true false = refl
-
-  or_false : (b : Bool) → b ≡ b || false
-  or_false true = refl
-  or_false false = refl
-
-  pub evict_found : (i : ℕ) → ready_place keys k v.ready ≡ Some i → outcome true (with_lists v (swap_remove v.ready i) (cancel keys k v.pending)) ≡ evict keys v k
-  evict_found i h = rw h (ap (λ b. outcome b (with_lists v (swap_remove v.ready i) (cancel keys k v.pending))) (or_true (any_live keys k v.pending)))
-
-  pub evict_missed : ready_place keys k v.ready ≡ None → outcome (any_live keys k v.pending) (with_lists v v.ready (cancel keys k v.pending)) ≡ evict keys v k
-  evict_missed h = rw h (ap (λ b. outcome b (with_lists v v.ready (cancel keys k v.pending))) (or_false (any_live keys k v.pending)))

@@ -33,16 +33,16 @@ pub record Turned {K S Q A E W : Type 0} (ends : Endpoints S Q A E W) (now : ℕ
       q ≡ cond who.cancelled (over p) (by_readiness left.answer p (kept p) (λ _. over p))
 
 module _ {K S : Type 0} (keys : Sameness K) where
-  -- e joined the first len of xs, in which it had a place; there are n of them then
-  pub record Promoted (capacity : ℕ) (e : Entry K S) (xs : List (Entry K S)) (len : ℕ) (ys : List (Entry K S)) (n : ℕ) : Type 0 where
-    pub place : has_place keys capacity (take len xs) e.key ≡ true
+  -- e joined the first len of xs, in whose memory it had a place; there are n of them then
+  pub record Promoted (e : Entry K S) (xs : List (Entry K S)) (len : ℕ) (ys : List (Entry K S)) (n : ℕ) : Type 0 where
+    pub place : has_place keys (length xs) (take len xs) e.key ≡ true
     pub list : take n ys ≡ promote keys e (take len xs)
     pub most : n ≤ len + 1
-    pub within : n ≤ capacity
+    pub within : n ≤ length xs
 
   -- e had no place
-  pub record Refused {E : Type 0} (capacity : ℕ) (e : Entry K S) (xs : List (Entry K S)) (len : ℕ) (ys : List (Entry K S)) (x : PendingError K E) : Type 0 where
-    pub place : has_place keys capacity (take len xs) e.key ≡ false
+  pub record Refused {E : Type 0} (e : Entry K S) (xs : List (Entry K S)) (len : ℕ) (ys : List (Entry K S)) (x : PendingError K E) : Type 0 where
+    pub place : has_place keys (length xs) (take len xs) e.key ≡ false
     pub fault : x ≡ error.NoPlace e.key
     pub same : ys ≡ xs
 
@@ -60,22 +60,22 @@ abbrev pub fault_of : {E : Type 0} → Result (Unit {0}) E → Option E
 fault_of (Ok u) = None
 fault_of (Err x) = Some x
 
-module _ {K S Q A E W : Type 0} (keys : Sameness K) (ends : Endpoints S Q A E W) (now capacity end : ℕ) where
-  -- what is left of a pass over the first `end` of ys that has come to these places
+module _ {K S Q A E W : Type 0} (keys : Sameness K) (ends : Endpoints S Q A E W) (now : ℕ) where
+  -- what is left of a pass over ys that has come to these places, where xs is the memory of the ready ones
   abbrev pub left_of : List (Entry K S) → List (Entry K S) → Places → Ended K S E
-  left_of xs ys p = ended (pass keys ends now capacity (take p.ready xs) (take p.write ys) (drop p.read (take end ys)))
+  left_of xs ys p = ended (pass keys ends now (length xs) (take p.ready xs) (take p.write ys) (drop p.read ys))
 
   -- a pass went on from the places p to q, in memory xs and ys that is now xs' and ys'
   pub record Went (xs ys xs' ys' : List (Entry K S)) (p q : Places) : Type 0 where
     pub behind : q.write ≤ q.read
-    pub within : q.read ≤ end
-    pub fits : q.ready ≤ capacity
-    pub roomy : q.ready + q.write + (end - q.read) ≤ p.ready + p.write + (end - p.read)
+    pub within : q.read ≤ length ys
+    pub fits : q.ready ≤ length xs
+    pub roomy : q.ready + q.write + (length ys - q.read) ≤ p.ready + p.write + (length ys - p.read)
     pub ready_long : length xs' ≡ length xs
     pub pending_long : length ys' ≡ length ys
 
   -- it ended there, with this result
   pub record Ends (xs ys xs' ys' : List (Entry K S)) (p q : Places) (r : Result (Unit {0}) (PendingError K E)) : Type 0 where
     pub went : Went xs ys xs' ys' p q
-    pub done : fault_of r ≡ None → end ≤ q.read
-    pub same : left_of xs ys p ≡ record { ready = take q.ready xs'; kept = take q.write ys'; rest = drop q.read (take end ys'); fault = fault_of r }
+    pub done : fault_of r ≡ None → length ys ≤ q.read
+    pub same : left_of xs ys p ≡ record { ready = take q.ready xs'; kept = take q.write ys'; rest = drop q.read ys'; fault = fault_of r }

@@ -1,94 +1,89 @@
 // Taking workers in, and taking them away.
-ghost use Rattle.std.specs.Prelude.{◌≡◌};
+ghost use Rattle.std.specs.Prelude.{◌≡◌, ◌<◌, OnSome};
 ghost use Rattle.model.specs.Options.{by_some};
 ghost use Rattle.model.specs.Lists.{at as item_at, swap_remove};
 ghost use Rattle.cache_model.specs.Entries.{set_aside};
-ghost use Rattle.cache_model.specs.Cache.{with_lists, push, evict};
-ghost use Rattle.ready_cache.specs.View.{view};
+ghost use Rattle.cache_model.specs.Cache.{with_lists, push, evict, held};
 
 use crate::cache::ReadyCache;
-use crate::pending;
 use cache_model::entry::Entry;
 use cache_model::error::{PushError, PushRefusal};
+use entries::position;
 use service::Key;
 
 impl<'a, K: Copy, S: Copy> ReadyCache<'a, K, S> {
     // Takes the ready entry at a place away: the last one moves into the gap.
-    pub(crate) fn remove(&mut self, i: usize)
-        ensures { view self.new ≡ with_lists (view self.old) (swap_remove (view self.old).ready i) (view self.old).pending }
+    pub(crate) fn remove(&mut self, i: usize) -> Option<Entry<K, S>>
+        ensures answer { result ≡ item_at self.old.ready i }
+        ensures after { self.new ≡ with_lists self.old (swap_remove self.old.ready i) self.old.pending }
+        ensures room { OnSome result (held self.new < self.new.capacity) }
     {
-        let l = self.lengths();
-        match lists::swap_remove(self.ready, l.ready, i) {
-            Some(_) => {
-                self.ready_count = l.ready - 1;
-                self.pending_count = l.pending;
-            }
-            None => {}
-        }
+        let entry = lists::swap_remove(&mut self.ready[..self.ready_count], i)?;
+        self.ready_count -= 1;
+        Some(entry)
     }
 }
 
 impl<'a, K: Key, S: Copy> ReadyCache<'a, K, S> {
     // Takes a worker in, to the end of pending, and cancels the one of its key there; answers its serial.
     pub fn push(&mut self, key: K, endpoint: S) -> Result<u64, PushError<K>>
-        ensures answer { result ≡ (push K.sameness (view self.old) key endpoint).answer }
-        ensures after { view self.new ≡ (push K.sameness (view self.old) key endpoint).after }
+        ensures answer { result ≡ (push K.sameness self.old key endpoint).answer }
+        ensures after { self.new ≡ (push K.sameness self.old key endpoint).after }
     {
-        let l = self.lengths();
-        let serial = self.next_serial;
-        if l.ready + l.pending >= l.capacity {
+        if self.len() >= self.capacity() {
             return Err(PushError {
                 key,
                 refusal: PushRefusal::Full,
             });
         }
-        if serial >= u64::MAX {
+        let serial = self.next_serial;
+        if serial == u64::MAX {
             return Err(PushError {
                 key,
                 refusal: PushRefusal::SerialsSpent,
             });
         }
-        entries::cancel(self.pending, l.pending, &key);
-        let entry = Entry {
-            key,
-            endpoint,
-            serial,
-            cancelled: false,
-        };
-        lists::append(self.pending, l.pending, entry);
-        self.pending_count = l.pending + 1;
-        self.next_serial = serial + 1;
+        entries::cancel(&mut self.pending[..self.pending_count], &key);
+        self.pending[self.pending_count] = Entry::new(key, endpoint, serial);
+        self.pending_count += 1;
+        self.next_serial += 1;
         Ok(serial)
     }
 
     // Cancels the pending worker of the key and takes the ready one away; answers whether there was either.
     pub fn evict(&mut self, key: &K) -> bool
-        ensures answer { result ≡ (evict K.sameness (view self.old) key.now).answer }
-        ensures after { view self.new ≡ (evict K.sameness (view self.old) key.now).after }
+        ensures answer { result ≡ (evict K.sameness self.old key.now).answer }
+        ensures after { self.new ≡ (evict K.sameness self.old key.now).after }
     {
-        let l = self.lengths();
-        let cancelled = entries::cancel(self.pending, l.pending, key);
-        match self.ready_index(key) {
-            Some(i) => {
-                self.remove(i);
-                true
-            }
-            None => cancelled,
+        let cancelled = entries::cancel(&mut self.pending[..self.pending_count], key);
+        let Some(i) = self.ready_index(key) else {
+            return cancelled;
+        };
+        self.remove(i);
+        true
+    }
+
+    // Appends an entry that is no longer ready to pending, unless an uncancelled one there has its key.
+    fn set_aside(&mut self, entry: Entry<K, S>)
+        requires { held self.old < self.old.capacity }
+        ensures { self.new ≡ with_lists self.old self.old.ready (set_aside K.sameness entry self.old.pending) }
+    {
+        if self.pending_contains(&entry.key) {
+            return;
         }
+        self.pending[self.pending_count] = Entry {
+            cancelled: false,
+            ..entry
+        };
+        self.pending_count += 1;
     }
 
     // Moves the ready entry at a place to pending, unless an uncancelled one there has its key.
     pub(crate) fn demote(&mut self, i: usize)
-        ensures { view self.new ≡ by_some (item_at (view self.old).ready i) (view self.old) (λ e. with_lists (view self.old) (swap_remove (view self.old).ready i) (set_aside K.sameness e (view self.old).pending)) }
+        ensures { self.new ≡ by_some (item_at self.old.ready i) self.old (λ e. with_lists self.old (swap_remove self.old.ready i) (set_aside K.sameness e self.old.pending)) }
     {
-        let l = self.lengths();
-        match lists::swap_remove(self.ready, l.ready, i) {
-            Some(entry) => {
-                let end = pending::set_aside(self.pending, l.pending, entry);
-                self.ready_count = l.ready - 1;
-                self.pending_count = end;
-            }
-            None => {}
+        if let Some(entry) = self.remove(i) {
+            self.set_aside(entry);
         }
     }
 }

@@ -1,70 +1,77 @@
 // Reads the lines of a run.
-use crate::run::{Measure, Pick, Run};
-use anyhow::anyhow;
+use crate::run::{CachePick, Chosen, Measure, Pick, Run, Words, Workers};
+use anyhow::{Context, anyhow, bail};
+use decay::Decay;
+use decay::halving::Halving;
+use decay::squaring::Squaring;
 use discover::discovered::Discovered;
 use keys::name::Name;
+use peak_ewma::settings::Settings;
 use std::alloc::Global;
-use std::str::SplitWhitespace;
 use workers::answer::Answer;
 use workers::patterned::Patterned;
 
-// The next word of a line.
-fn word<'a>(words: &mut SplitWhitespace<'a>) -> anyhow::Result<&'a str> {
-    match words.next() {
-        Some(word) => Ok(word),
-        None => Err(anyhow!("a line is too short")),
-    }
+fn name(word: &str) -> anyhow::Result<Name> {
+    Name::new(word.as_bytes()).ok().context("no name")
 }
 
-fn number(words: &mut SplitWhitespace<'_>) -> anyhow::Result<u64> {
-    Ok(word(words)?.parse::<u64>()?)
-}
-
-fn small_number(words: &mut SplitWhitespace<'_>) -> anyhow::Result<u32> {
-    Ok(word(words)?.parse::<u32>()?)
-}
-
-fn size(words: &mut SplitWhitespace<'_>) -> anyhow::Result<usize> {
-    Ok(word(words)?.parse::<usize>()?)
-}
-
-fn name(words: &mut SplitWhitespace<'_>) -> anyhow::Result<Name> {
-    match Name::new(word(words)?.as_bytes()) {
-        Ok(name) => Ok(name),
-        Err(_) => Err(anyhow!("no name")),
+// The answer of a letter.
+fn answer(letter: u8) -> Answer {
+    match letter {
+        b'r' => Answer::Ready,
+        b'p' => Answer::Pending,
+        _ => Answer::Failed,
     }
 }
 
 // A worker with a pattern of the letters r, p and f; the word none, or no word, says that there is no answer.
-fn worker(heap: Global, words: &mut SplitWhitespace<'_>) -> anyhow::Result<Patterned> {
-    let mut pattern = Vec::new(heap);
-    match words.next() {
-        None => {}
-        Some(letters) => {
-            if letters != "none" {
-                for letter in letters.as_bytes() {
-                    pattern.push(match *letter {
-                        b'r' => Answer::Ready,
-                        b'p' => Answer::Pending,
-                        _ => Answer::Failed,
-                    })?;
-                }
-            }
+fn worker(heap: Global, words: &[&str]) -> anyhow::Result<Patterned> {
+    let letters = match words {
+        [] | ["none", ..] => "",
+        [letters, ..] => *letters,
+    };
+    let pattern: Vec<Answer> = letters.bytes().map(answer).collect(heap)?;
+    Patterned::new(pattern.as_slice())
+        .ok()
+        .context("a pattern is too long")
+}
+
+fn settings<D: Decay>(
+    decay: D,
+    default_rtt: &str,
+    decay_period: &str,
+) -> anyhow::Result<Settings<D>> {
+    Ok(Settings {
+        decay,
+        default_rtt: default_rtt.parse()?,
+        decay_period: decay_period.parse()?,
+    })
+}
+
+fn measure(words: &[&str]) -> anyhow::Result<Measure> {
+    match words {
+        ["count", ..] => Ok(Measure::Count),
+        ["halving", default_rtt, decay_period, ..] => {
+            Ok(Measure::Halving(settings(Halving, default_rtt, decay_period)?))
         }
-    }
-    match Patterned::new(pattern.as_slice()) {
-        Ok(worker) => Ok(worker),
-        Err(_) => Err(anyhow!("a pattern is too long")),
+        ["squaring", default_rtt, decay_period, ..] => {
+            Ok(Measure::Squaring(settings(Squaring, default_rtt, decay_period)?))
+        }
+        _ => Err(anyhow!("no load measure")),
     }
 }
 
-fn measure(words: &mut SplitWhitespace<'_>) -> anyhow::Result<Measure> {
-    match word(words)? {
-        "count" => Ok(Measure::Count),
-        "halving" => Ok(Measure::Halving(number(words)?, number(words)?)),
-        "squaring" => Ok(Measure::Squaring(number(words)?, number(words)?)),
-        _ => Err(anyhow!("no load measure")),
+// So many numbers, which stand after how many they are.
+fn listed(heap: Global, words: &[&str]) -> anyhow::Result<Vec<u64>> {
+    let [count, words @ ..] = words else {
+        bail!("a line is too short");
+    };
+    let words = words.get(..count.parse()?).context("a line is too short")?;
+    let mut numbers = Vec::new(heap);
+    for word in words {
+        numbers.push(word.parse()?)?;
     }
+    Ok(numbers)
 }
 
 impl Run {
@@ -72,9 +79,8 @@ impl Run {
     pub fn new(heap: Global) -> Self {
         Run {
             measure: Measure::Count,
-            paced: false,
-            hashed: false,
-            words: Vec::new(heap),
+            workers: Workers::Patterned,
+            words: Words::Listed(Vec::new(heap)),
             places: 0,
             records: 0,
             budget: 0,
@@ -87,109 +93,90 @@ impl Run {
 
     // Takes a line in.
     pub fn read(&mut self, heap: Global, line: &str) -> anyhow::Result<()> {
-        let mut words = line.split_whitespace();
-        let first = word(&mut words)?;
-        match first {
-            "load" => self.measure = measure(&mut words)?,
-            "workers" => self.paced = word(&mut words)? == "paced",
-            "words" => self.read_words(&mut words)?,
-            "sizes" => {
-                self.places = size(&mut words)?;
-                self.records = size(&mut words)?;
-                self.budget = small_number(&mut words)?;
+        let words: Vec<&str> = line.split_whitespace().collect(heap)?;
+        match words.as_slice() {
+            ["load", words @ ..] => self.measure = measure(words)?,
+            ["workers", "paced", ..] => self.workers = Workers::Paced,
+            ["workers", _, ..] => self.workers = Workers::Patterned,
+            ["words", "hash", ..] => self.words = Words::Hashed,
+            ["words", _, words @ ..] => self.words.list(listed(heap, words)?)?,
+            ["sizes", places, records, budget, ..] => {
+                self.places = places.parse()?;
+                self.records = records.parse()?;
+                self.budget = budget.parse()?;
             }
-            "first" => {
-                self.first_serial = number(&mut words)?;
-                self.first_ticket = number(&mut words)?;
+            ["first", serial, ticket, ..] => {
+                self.first_serial = serial.parse()?;
+                self.first_ticket = ticket.parse()?;
             }
-            "feed" | "picks" => {}
-            "insert" | "remove" | "pending" | "end" | "fault" => {
-                self.feed.push(answer(heap, first, &mut words)?)?
-            }
-            _ => self.picks.push(pick(heap, first, &mut words)?)?,
+            ["feed" | "picks", ..] => {}
+            words => self.read_event(heap, words)?,
         }
         Ok(())
     }
 
-    // The source of words: those of a list, or those by hashing.
-    fn read_words(&mut self, words: &mut SplitWhitespace<'_>) -> anyhow::Result<()> {
-        self.hashed = word(words)? == "hash";
-        if !self.hashed {
-            for _ in 0..size(words)? {
-                self.words.push(number(words)?)?;
+    // Takes in an answer of the feed, or a pick.
+    fn read_event(&mut self, heap: Global, words: &[&str]) -> anyhow::Result<()> {
+        match words {
+            ["insert", key, pattern @ ..] => {
+                self.feed
+                    .push(Discovered::Insert(name(key)?, worker(heap, pattern)?))?;
             }
+            ["remove", key, ..] => self.feed.push(Discovered::Remove(name(key)?))?,
+            ["pending", ..] => self.feed.push(Discovered::Pending)?,
+            ["end", ..] => self.feed.push(Discovered::End)?,
+            ["fault", error, ..] => self.feed.push(Discovered::Fault(error.parse()?))?,
+            _ => self.picks.push(pick(heap, words)?)?,
         }
         Ok(())
-    }
-}
-
-// An answer of the feed.
-fn answer(
-    heap: Global,
-    first: &str,
-    words: &mut SplitWhitespace<'_>,
-) -> anyhow::Result<Discovered<Name, Patterned, u32>> {
-    match first {
-        "insert" => Ok(Discovered::Insert(name(words)?, worker(heap, words)?)),
-        "remove" => Ok(Discovered::Remove(name(words)?)),
-        "pending" => Ok(Discovered::Pending),
-        "end" => Ok(Discovered::End),
-        _ => Ok(Discovered::Fault(small_number(words)?)),
     }
 }
 
 // A call of the balancer, or of its cache.
-fn pick(heap: Global, first: &str, words: &mut SplitWhitespace<'_>) -> anyhow::Result<Pick> {
-    if first == "evict" {
-        return Ok(Pick::Evict { key: name(words)? });
-    }
-    let at = number(words)?;
-    match first {
-        "poll" => Ok(Pick::Poll { at }),
-        "call" => Ok(Pick::Call {
-            at,
-            request: number(words)?,
+fn pick(heap: Global, words: &[&str]) -> anyhow::Result<Pick> {
+    match words {
+        ["poll", at, ..] => Ok(Pick::Poll { at: at.parse()? }),
+        ["call", at, request, ..] => Ok(Pick::Call {
+            at: at.parse()?,
+            request: request.parse()?,
         }),
-        "done" => Ok(Pick::Done {
-            at,
-            ticket: number(words)?,
+        ["done", at, ticket, ..] => Ok(Pick::Done {
+            at: at.parse()?,
+            ticket: ticket.parse()?,
         }),
-        _ => cache_pick(heap, first, at, words),
+        _ => Ok(Pick::Cache(cache_pick(heap, words)?)),
     }
 }
 
-// A call of the cache at an instant.
-fn cache_pick(
-    heap: Global,
-    first: &str,
-    at: u64,
-    words: &mut SplitWhitespace<'_>,
-) -> anyhow::Result<Pick> {
-    match first {
-        "push" => Ok(Pick::Push {
-            at,
-            key: name(words)?,
-            worker: worker(heap, words)?,
+// A call of the cache.
+fn cache_pick(heap: Global, words: &[&str]) -> anyhow::Result<CachePick> {
+    match words {
+        ["push", at, key, pattern @ ..] => Ok(CachePick::Push {
+            at: at.parse()?,
+            key: name(key)?,
+            worker: worker(heap, pattern)?,
         }),
-        "pass" => Ok(Pick::Pass { at }),
-        "check" => Ok(Pick::Check {
-            at,
-            place: size(words)?,
-        }),
-        "checkkey" => Ok(Pick::CheckKey {
-            at,
-            key: name(words)?,
-        }),
-        "send" => Ok(Pick::Send {
-            at,
-            place: size(words)?,
-            request: number(words)?,
-        }),
-        "sendkey" => Ok(Pick::SendKey {
-            at,
-            key: name(words)?,
-            request: number(words)?,
-        }),
+        ["evict", key, ..] => Ok(CachePick::Evict { key: name(key)? }),
+        ["pass", at, ..] => Ok(CachePick::Pass { at: at.parse()? }),
+        ["check", at, place, ..] => check(at, Chosen::Place(place.parse()?)),
+        ["checkkey", at, key, ..] => check(at, Chosen::Key(name(key)?)),
+        ["send", at, place, request, ..] => send(at, Chosen::Place(place.parse()?), request),
+        ["sendkey", at, key, request, ..] => send(at, Chosen::Key(name(key)?), request),
         _ => Err(anyhow!("no such line")),
     }
+}
+
+fn check(at: &str, chosen: Chosen) -> anyhow::Result<CachePick> {
+    Ok(CachePick::Check {
+        at: at.parse()?,
+        chosen,
+    })
+}
+
+fn send(at: &str, chosen: Chosen, request: &str) -> anyhow::Result<CachePick> {
+    Ok(CachePick::Send {
+        at: at.parse()?,
+        chosen,
+        request: request.parse()?,
+    })
 }

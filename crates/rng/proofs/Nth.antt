@@ -2,6 +2,7 @@
 use Rattle.std.proofs.Common.{◌≡◌, ℕ, zero, suc, ◌+◌, ◌%◌, ◌^◌, ◌<◌, ◌≤◌, ◌⊎◌, List, length, get_or, sym, ap, ◌∙◌, inl, inr, mod-lt, mod-eq_of_lt, zero-add, arith, lit<, Bor}
 use native.Mathlib.Nat.{mod-add-mod, add-mod_left}
 use Rattle.std.proofs.lemmas.Bool.{lt-ltb, le-ltb, cases_lt}
+use Rattle.std.proofs.lemmas.Bool.Decides.{nat_tests}
 use Rattle.std.proofs.lemmas.List.{get_or_past}
 use Rattle.rng.specs.declared.list_rng.ListRng.{ListRng}
 use Rattle.rng.specs.Words.{nth_word}
@@ -35,11 +36,7 @@ module _ (ws : Bor (List ℕ)) where
           rw (le-ltb (i + 1) n l) (ap (λ (m : ℕ). m % n) (zero-add k) ∙ sym (add-mod_left n k) ∙ ap (λ (m : ℕ). m % n) (sym e))
 
   next_below : (i : ℕ) → i < n → next_place ws.now i < n
-  next_below i h = go (cases_lt (i + 1) n)
-    where
-      go : (i + 1 < n) ⊎ (n ≤ i + 1) → next_place ws.now i < n
-      go (inl l) = rw (lt-ltb (i + 1) n l) l
-      go (inr l) = rw (le-ltb (i + 1) n l) (omega arith)
+  next_below i h = grind (arith, nat_tests)
 
   list_from : (k i : ℕ) → i < n → nth_word list_words (source_at i) k ≡ get_or ws.now ((i + k) % n) 0
   list_from zero i h = let e : (i + 0) % n ≡ i = ap (λ (m : ℕ). m % n) (omega arith) ∙ mod-eq_of_lt h in ap (λ m. get_or ws.now m 0) (sym e)

@@ -10,9 +10,8 @@ const PRIME: u64 = 1_099_511_628_211;
 pub fn fnv1a(bytes: &[u8]) -> u64
     ensures { result ≡ fnv_1a bytes.now }
 {
-    let mut hash = OFFSET_BASIS;
-    for byte in bytes {
-        hash = (hash ^ u64::from(*byte)).wrapping_mul(PRIME);
-    }
-    hash
+    bytes.iter().fold(
+        OFFSET_BASIS,
+        |hash, byte| (hash ^ u64::from(*byte)).wrapping_mul(PRIME),
+    )
 }

@@ -35,20 +35,8 @@ pub trait Rng {
     }
 }
 
-// Two places by two words: the first below length - 1, the second below length; where they are equal, the first becomes the last place.
-fn two_places<R: Rng>(rng: &mut R, length: u64) -> [u64; 2]
-    ensures answer { result ≡ (sample R.source rng.old length).answer }
-    ensures after { rng.new ≡ (sample R.source rng.old length).after }
-{
-    if length < 2 {
-        return [0, 0];
-    }
-    let a = rng.next_range(0..length - 1);
-    let b = rng.next_range(0..length);
-    if a == b { [length - 1, b] } else { [a, b] }
-}
-
-// Two different places below `length`, by two words; below two places it answers [0, 0] and takes no word.
+// Two different places below `length` by two words: the first below length - 1, which becomes the last place where the second is the same. Below two places it answers [0, 0] and takes no word.
+#[tactic(auto, using(crate::proofs::Samples::of_floyd, crate::proofs::Samples::different, sampling::proofs::Shares::fair_shares))]
 pub fn sample_floyd2<R: Rng>(rng: &mut R, length: u64) -> [u64; 2]
     ensures answer { result ≡ (sample R.source rng.old length).answer }
     ensures after { rng.new ≡ (sample R.source rng.old length).after }
@@ -57,5 +45,10 @@ pub fn sample_floyd2<R: Rng>(rng: &mut R, length: u64) -> [u64; 2]
     ensures pairs { 2 ≤ length → OnePairEach length }
     ensures shares { 2 ≤ length → FairShares length }
 {
-    two_places(rng, length)
+    if length < 2 {
+        return [0, 0];
+    }
+    let a = rng.next_range(0..length - 1);
+    let b = rng.next_range(0..length);
+    if a == b { [length - 1, b] } else { [a, b] }
 }

@@ -10,19 +10,13 @@ use crate::hasher_rng::HasherRng;
 use crate::list_rng::ListRng;
 
 impl HasherRng {
-    // The counter at 0.
-    fn start() -> Self
-        ensures { result ≡ hasher_start }
-    {
-        HasherRng { counter: 0 }
-    }
-
     // A source whose counter starts at 0.
+    #[tactic(auto, using(crate::proofs::Nth::hasher_nth))]
     pub fn new() -> Self
         ensures value { result ≡ hasher_start }
         ensures words { (k : ℕ) → nth_word hasher_words result k ≡ fnv_1a (bytes_of (k % 2 ^ 64)) }
     {
-        HasherRng::start()
+        HasherRng { counter: 0 }
     }
 }
 
@@ -37,18 +31,13 @@ impl Rng for HasherRng {
 }
 
 impl<'a> ListRng<'a> {
-    // The list at its first word.
-    fn start(words: &'a [u64]) -> Self
-        ensures { result ≡ list_start words.entry }
+    // A source that gives the words in their order, over and over; with no words it gives 0.
+    #[tactic(auto, using(crate::proofs::Nth::list_nth))]
+    pub fn new(words: &'a [u64]) -> Self
+        ensures value { result ≡ list_start words.entry }
+        ensures words { (k : ℕ) → nth_word list_words result k ≡ slice_index words.now (k % length words.now) }
     {
         ListRng { words, next: 0 }
-    }
-
-    // A source that gives the words in their order, over and over; with no words it gives 0.
-    pub fn new(words: &'a [u64]) -> Self
-        ensures { (k : ℕ) → nth_word list_words result k ≡ slice_index words.now (k % length words.now) }
-    {
-        ListRng::start(words)
     }
 }
 
@@ -56,13 +45,15 @@ impl Rng for ListRng<'_> {
     ghost source = { list_words };
 
     fn next_u64(&mut self) -> u64 {
-        let words = self.words;
-        let at = self.next;
-        if at >= words.len() {
+        let Some(word) = self.words.get(self.next) else {
             self.next = 0;
+            // no words at all
             return 0;
+        };
+        self.next += 1;
+        if self.next >= self.words.len() {
+            self.next = 0;
         }
-        self.next = if at + 1 < words.len() { at + 1 } else { 0 };
-        words[at]
+        *word
     }
 }

@@ -1,15 +1,11 @@
 -- One pick more.
-use Rattle.std.proofs.Common.{◌≡◌, ℕ, ◌+◌, ◌<◌, ◌≤◌, true, List, [], ◌∷◌, ◌++◌, length, get_or, take, is_err, IfOk, Ok, Err, Result, sym, refl, ap, ◌∙◌, arith}
+use Rattle.std.proofs.Common.{◌≡◌, ℕ, ◌+◌, ◌<◌, ◌≤◌, List, [], ◌∷◌, ◌++◌, length, get_or, take, sym, refl, ap, ◌∙◌, subst}
 use Rattle.std.proofs.lemmas.List.{take_more, take_all}
 use Rattle.balance_model.specs.declared.pick.Pick.{Pick}
 use Rattle.balance_model.specs.declared.pick.Answer.{Answer}
 use Rattle.balance_model.specs.Meanings.{Meanings}
-use Rattle.balance_model.specs.Balance.{State, Balancer, Making, new_balancer, newly_made}
+use Rattle.balance_model.specs.Balance.{State, Making, newly_made}
 use Rattle.balance_model.specs.History.{Run, event, after, apply, apply_all, answer_of, answers_of}
-use Rattle.cache_model.specs.Cache.{Cache, new_cache}
-use Rattle.balance_model.specs.Docket.{Docket, new_docket}
-use Rattle.balance.specs.declared.balance.Balance.{Balance}
-use Rattle.balance.specs.View.{view, state}
 use Rattle.runs.specs.declared.ran.Ran.{Ran}
 use Rattle.runs.specs.Runs.{Applied, from_state, whole_run, Closing, RanAs}
 
@@ -44,30 +40,10 @@ pub with_items : {K S A E D F R : Type 0} (xs ys : List (Answer K A F)) (st : St
 with_items xs ys st run e a = record { answers = e ∙ a.answers; state = a.state }
 
 -- what is given back is what the run answered and left
-pub ran_as : {K S Q A E W D F R : Type 0} (m : Meanings K S Q A E W D F R) (making : Making D R) (picks : List (Pick Q)) (x : Ran K S A D F R) (answers : List (Answer K A F)) (b₀ b : Balance D R) (c₀ c : Cache K S) (d₀ d : Docket) →
-    view b₀ ≡ new_balancer making.feed making.words making.budget → c₀ ≡ new_cache making.cache_capacity making.first_serial → d₀ ≡ new_docket making.docket_capacity making.first_ticket →
-    Applied answers (state b c d) (apply_all m (from_state (state b₀ c₀ d₀)) picks) → Closing x answers b c d → RanAs x (whole_run m making picks)
-ran_as {K} {S} {A = A} {E = E} {D = D} {F = F} {R = R} m making picks x answers b₀ b c₀ c d₀ d eb ec ed a k =
-    let start : state b₀ c₀ d₀ ≡ newly_made making =
-    ap (λ (y : Balancer D R). record { balancer = y; cache = c₀; docket = d₀ }) eb ∙ ap (λ (y : Cache K S). record { balancer = new_balancer making.feed making.words making.budget; cache = y; docket = d₀ }) ec ∙ ap (λ (y : Docket). record { balancer = new_balancer making.feed making.words making.budget; cache = new_cache making.cache_capacity making.first_serial; docket = y }) ed in
-    let same : apply_all m (from_state (state b₀ c₀ d₀)) picks ≡ whole_run m making picks = ap (λ (st : State K S D R). apply_all m (from_state st) picks) start in
-    let closing : state b c d ≡ (whole_run m making picks).state = a.state ∙ ap (λ (r : Run K S A E D F R). r.state) same in
-    record {
-      answers = k.answers ∙ a.answers ∙ ap (λ (r : Run K S A E D F R). answers_of r.history) same;
-      balancer = ap view k.balance ∙ ap (λ (st : State K S D R). st.balancer) closing;
-      ready = k.ready ∙ ap (λ (st : State K S D R). st.cache.ready) closing;
-      pending = k.pending ∙ ap (λ (st : State K S D R). st.cache.pending) closing;
-      resume = k.resume ∙ ap (λ (st : State K S D R). st.cache.resume) closing;
-      next_serial = k.next_serial ∙ ap (λ (st : State K S D R). st.cache.next) closing;
-      records = k.records ∙ ap (λ (st : State K S D R). st.docket.records) closing;
-      next_ticket = k.next_ticket ∙ ap (λ (st : State K S D R). st.docket.next) closing;
-    }
-
--- what holds of what is made holds of it under a weaker claim
-pub made_map : {X Y : Type 0} (r : Result X Y) (P Q : X → Type 0) → ((x : X) → P x → Q x) → IfOk r P → IfOk r Q
-made_map (Ok x) P Q f p = f x p
-made_map (Err y) P Q f p = tt
-
-pub made_none : {X Y : Type 0} (r : Result X Y) (Q : X → Type 0) → is_err r ≡ true → IfOk r Q
-made_none (Ok x) Q e = let z : ◌≡◌ {A = ℕ} 0 1 = cc in absurd (omega arith)
-made_none (Err y) Q e = tt
+pub ran_as : {K S Q A E W D F R : Type 0} (m : Meanings K S Q A E W D F R) (making : Making D R) (picks : List (Pick Q)) (x : Ran K S A D F R) (answers : List (Answer K A F)) (start st : State K S D R) →
+    start ≡ newly_made making → Applied answers st (apply_all m (from_state start) picks) → Closing x answers st → RanAs x (whole_run m making picks)
+ran_as {K} {S} {A = A} {E = E} {D = D} {F = F} {R = R} m making picks x answers start st new a k =
+    let run : Run K S A E D F R = apply_all m (from_state start) picks in
+    let same : run ≡ whole_run m making picks = ap (λ (s : State K S D R). apply_all m (from_state s) picks) new in
+    let given : Closing x (answers_of run.history) st = subst (λ (xs : List (Answer K A F)). Closing x xs st) a.answers k in
+    subst (RanAs x) same (subst (Closing x (answers_of run.history)) a.state given)

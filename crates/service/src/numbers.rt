@@ -1,18 +1,29 @@
 // The number of a refusal or a fault, as programs print it.
+// `number` is what callers name; answers that are no refusal have none, so it is no conversion.
 ghost use Rattle.std.specs.Prelude.{◌≡◌};
+ghost use Rattle.service.specs.declared.refusal.EndpointRefusal.TheVariants.{NoGrant};
 ghost use Rattle.service.specs.Numbers.{service_number, endpoint_number, invalid_number, readiness_number};
 
 use crate::readiness::Readiness;
 use crate::refusal::{EndpointRefusal, Invalid, ServiceRefusal};
+
+impl From<ServiceRefusal> for EndpointRefusal {
+    ghost from_gives = { λ _ refusal. refusal ≡ NoGrant };
+
+    // What an endpoint answers where the service below it refuses.
+    fn from(refusal: ServiceRefusal) -> Self {
+        match refusal {
+            ServiceRefusal::NoGrant => EndpointRefusal::NoGrant,
+        }
+    }
+}
 
 impl ServiceRefusal {
     // The number of the refusal.
     pub fn number(self) -> u8
         ensures { result ≡ service_number self }
     {
-        match self {
-            ServiceRefusal::NoGrant => 4,
-        }
+        EndpointRefusal::from(self).number()
     }
 }
 
@@ -21,10 +32,7 @@ impl EndpointRefusal {
     pub fn number(self) -> u8
         ensures { result ≡ endpoint_number self }
     {
-        match self {
-            EndpointRefusal::NoGrant => 4,
-            EndpointRefusal::AtCeiling => 5,
-        }
+        self as u8
     }
 }
 

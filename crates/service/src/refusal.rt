@@ -4,11 +4,11 @@ pub enum ServiceRefusal {
     NoGrant,
 }
 
-// Why an endpoint does not take a request.
+// Why an endpoint does not take a request, with its number.
 #[derive(Clone, Copy, PartialEq, Eq, Debug)]
 pub enum EndpointRefusal {
-    NoGrant,
-    AtCeiling,
+    NoGrant = 4,
+    AtCeiling = 5,
 }
 
 // Why a value is not made.

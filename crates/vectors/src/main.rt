@@ -1,7 +1,7 @@
 // Published and worked values: each line on standard input asks for one, and the answer is printed beside it.
 #![tactic(auto)]
 
-use anyhow::anyhow;
+use anyhow::{anyhow, bail};
 use decay::Decay;
 use decay::halving::Halving;
 use decay::squaring::Squaring;
@@ -14,18 +14,6 @@ use rng::{Rng, sample_floyd2};
 use std::alloc::Global;
 use std::io::{BufRead, BufReader};
 use std::num::f64_to_bits_with_nan;
-use std::str::SplitWhitespace;
-
-fn word<'a>(words: &mut SplitWhitespace<'a>) -> anyhow::Result<&'a str> {
-    match words.next() {
-        Some(word) => Ok(word),
-        None => Err(anyhow!("a line is too short")),
-    }
-}
-
-fn number(words: &mut SplitWhitespace<'_>) -> anyhow::Result<u64> {
-    Ok(word(words)?.parse::<u64>()?)
-}
 
 // A number of 64 bits in hexadecimal.
 fn hex(heap: Global, bits: u64) -> anyhow::Result<String> {
@@ -33,92 +21,70 @@ fn hex(heap: Global, bits: u64) -> anyhow::Result<String> {
 }
 
 // The share that a decay keeps after a time, in periods.
-fn share<D: Decay>(
-    heap: Global,
-    decay: D,
-    words: &mut SplitWhitespace<'_>,
-) -> anyhow::Result<String> {
-    let elapsed = nanos(number(words)?);
-    let period = nanos(number(words)?);
-    hex(heap, f64_to_bits_with_nan(decay.decay(-elapsed / period)))
+fn share<D: Decay>(decay: D, words: &[&str]) -> anyhow::Result<u64> {
+    let [elapsed, period, ..] = words else {
+        bail!("a line is too short");
+    };
+    let elapsed = nanos(elapsed.parse()?);
+    let period = nanos(period.parse()?);
+    Ok(f64_to_bits_with_nan(decay.decay(-elapsed / period)))
 }
 
 // The estimate that starts as a default at the instant 0, after a response.
-fn estimate<D: Decay>(
-    heap: Global,
-    decay: D,
-    words: &mut SplitWhitespace<'_>,
-) -> anyhow::Result<String> {
+fn estimate<D: Decay>(decay: D, words: &[&str]) -> anyhow::Result<u64> {
+    let [default_rtt, period, sent, at, ..] = words else {
+        bail!("a line is too short");
+    };
     let mut estimate = RttEstimate {
-        rtt_ns: nanos(number(words)?),
+        rtt_ns: nanos(default_rtt.parse()?),
         update_at: 0,
     };
-    let period = number(words)?;
-    let sent = number(words)?;
-    estimate.update(&decay, period, sent, number(words)?);
-    hex(heap, estimate.to_bits())
+    estimate.update(&decay, period.parse()?, sent.parse()?, at.parse()?);
+    Ok(estimate.to_bits())
 }
 
 // The word by hashing a counter, after so many others.
-fn nth_word(heap: Global, place: u64) -> anyhow::Result<String> {
+fn nth_word(place: u64) -> u64 {
     let mut rng = HasherRng::new();
     for _ in 0..place {
         let _ = rng.next_u64();
     }
-    hex(heap, rng.next_u64())
+    rng.next_u64()
 }
 
-// Two places below a length, by two words.
-fn sample(heap: Global, length: u64, first: u64, second: u64) -> anyhow::Result<String> {
-    let words = [first, second];
-    let [a, b] = sample_floyd2(&mut ListRng::new(&words), length);
-    Ok(format!(in heap; "{a} {b}")?)
-}
-
-// A number of a range, by a word.
-fn in_range(heap: Global, start: u64, end: u64, value: u64) -> anyhow::Result<String> {
-    let words = [value];
-    let number = ListRng::new(&words).next_range(start..end);
-    Ok(format!(in heap; "{number}")?)
-}
-
-// The answer to a line.
-fn answer(heap: Global, line: &str) -> anyhow::Result<String> {
-    let mut words = line.split_whitespace();
-    match word(&mut words)? {
-        "fnv" => hex(heap, fnv1a(words.next().unwrap_or("").as_bytes())),
-        "word" => nth_word(heap, number(&mut words)?),
-        "range" => in_range(
-            heap,
-            number(&mut words)?,
-            number(&mut words)?,
-            number(&mut words)?,
-        ),
-        "sample" => sample(
-            heap,
-            number(&mut words)?,
-            number(&mut words)?,
-            number(&mut words)?,
-        ),
-        "nanos" => hex(heap, f64_to_bits_with_nan(nanos(number(&mut words)?))),
-        "halving" => share(heap, Halving, &mut words),
-        "squaring" => share(heap, Squaring, &mut words),
-        "halved" => estimate(heap, Halving, &mut words),
-        "squared" => estimate(heap, Squaring, &mut words),
+// The answer to a line's words.
+fn answer(heap: Global, words: &[&str]) -> anyhow::Result<String> {
+    match words {
+        ["fnv"] => hex(heap, fnv1a(b"")),
+        ["fnv", text, ..] => hex(heap, fnv1a(text.as_bytes())),
+        ["word", place, ..] => hex(heap, nth_word(place.parse()?)),
+        ["range", start, end, word, ..] => {
+            let words = [word.parse()?];
+            let number = ListRng::new(&words).next_range(start.parse()?..end.parse()?);
+            Ok(format!(in heap; "{number}")?)
+        }
+        ["sample", length, first, second, ..] => {
+            let words = [first.parse()?, second.parse()?];
+            let [a, b] = sample_floyd2(&mut ListRng::new(&words), length.parse()?);
+            Ok(format!(in heap; "{a} {b}")?)
+        }
+        ["nanos", number, ..] => hex(heap, f64_to_bits_with_nan(nanos(number.parse()?))),
+        ["halving", words @ ..] => hex(heap, share(Halving, words)?),
+        ["squaring", words @ ..] => hex(heap, share(Squaring, words)?),
+        ["halved", words @ ..] => hex(heap, estimate(Halving, words)?),
+        ["squared", words @ ..] => hex(heap, estimate(Squaring, words)?),
+        [] | ["word" | "range" | "sample" | "nanos", ..] => Err(anyhow!("a line is too short")),
         _ => Err(anyhow!("no such line")),
     }
 }
 
-fn answer_all(rt: &HostRuntime) -> anyhow::Result<()> {
+fn main(rt: HostRuntime) -> anyhow::Result<()> {
     let heap = rt.alloc();
     for line in BufReader::new(heap, rt.stdin())?.lines(heap) {
         let line = line?;
-        let value = answer(heap, line.as_str())?;
+        let words: Vec<&str> = line.split_whitespace().collect(heap)?;
+        let value = answer(heap, words.as_slice())?;
         println!(rt; "{line}: {value}")?;
     }
     Ok(())
-}
-
-fn main(rt: HostRuntime) -> anyhow::Result<()> {
-    answer_all(&rt)
 }

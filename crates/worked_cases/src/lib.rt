@@ -4,9 +4,8 @@
 ghost use Rattle.worked_cases.specs.Cases.{WorkedCases};
 
 // The cases hold.
-pub fn worked_cases() -> u8
+pub fn worked_cases()
     ensures { WorkedCases }
 {
     peak_ewma::cases::worked_cases();
-    0
 }

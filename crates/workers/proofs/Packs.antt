@@ -1,8 +1,11 @@
 -- Answers packed in a number.
-use Rattle.std.proofs.Common.{◌≡◌, ℕ, zero, suc, ◌+◌, ◌-◌, ◌*◌, ◌/◌, ◌%◌, ◌^◌, ◌<◌, ◌≤◌, List, [], ◌∷◌, length, get_or, drop, sym, refl, ap, ◌∙◌, ap₂, not-suc-le-zero, div-one, arith, lit<}
+use Rattle.std.proofs.Common.{◌≡◌, ℕ, zero, suc, ◌+◌, ◌*◌, ◌/◌, ◌%◌, ◌^◌, ◌<◌, ◌≤◌, List, [], ◌∷◌, length, fold, reverse, sym, refl, ap, ◌∙◌, not-suc-le-zero, div-one, arith, lit<}
 use native.Mathlib.Nat.{pow-succ', zero-div, add-mul-div_left, add-mul-mod_self_left}
 use Rattle.std.proofs.lemmas.Nat.{shr-shr}
-use Rattle.std.proofs.lemmas.List.{drop_more}
+use Rattle.std.specs.Int.Bits.{bit_or}
+use Rattle.std.proofs.lemmas.Grind.{or_after_shift}
+use Rattle.std.proofs.lemmas.List.{reverse-append}
+use Rattle.std.proofs.lemmas.List.Sums.{fold-append}
 use Rattle.model.specs.Options.{by_some}
 use Rattle.model.specs.Lists.{at}
 use Rattle.service.specs.declared.readiness.Readiness.TheVariants as readiness
@@ -21,11 +24,21 @@ packed_below zero (x ∷ xs) h = absurd (not-suc-le-zero h)
 packed_below (suc k) [] h = omega (arith, packed_below k [] (omega arith), pow-succ' 4 k)
 packed_below (suc k) (x ∷ xs) h = omega (arith, code_small x, packed_below k xs (omega arith), pow-succ' 4 k)
 
--- one answer before those from a place on
-pub packed_more : (xs : List Answer) (i x y : ℕ) (d : Answer) → 0 < i → i ≤ length xs → x ≡ code (get_or xs (i - 1) d) → y ≡ packed (drop i xs) → x + 4 * y ≡ packed (drop (i - 1) xs)
-packed_more xs i x y d h k e f =
-    let back : i - 1 + 1 ≡ i = omega arith in
-    ap₂ (λ (a b : ℕ). a + 4 * b) e (f ∙ ap (λ (j : ℕ). packed (drop j xs)) (sym back)) ∙ sym (ap packed (drop_more xs (i - 1) d (omega arith)))
+-- one answer more, below those that are shifted
+abbrev pub shifted_in : ℕ → Answer → ℕ
+shifted_in n a = bit_or (n * 4 % 2 ^ 64) (code a)
+
+shifted_in_is : (n : ℕ) (a : Answer) → n < 4 ^ 31 → shifted_in n a ≡ code a + 4 * n
+shifted_in_is n a h =
+    let e : n * 4 + code a ≡ code a + 4 * n = omega arith in
+    or_after_shift n 4 (2 ^ 64) (code a) refl (omega (arith, code_small a)) (omega arith) ∙ e
+
+pub packed_by_fold : (xs : List Answer) → length xs ≤ 32 → fold shifted_in 0 (reverse xs) ≡ packed xs
+packed_by_fold [] h = refl
+packed_by_fold (x ∷ xs) h =
+    let below : packed xs < 4 ^ 31 = packed_below 31 xs (omega arith) in
+    let more : fold shifted_in 0 (reverse xs) ≡ packed xs = packed_by_fold xs (omega arith) in
+    ap (λ (ys : List Answer). fold shifted_in 0 ys) (reverse-append (x ∷ []) xs) ∙ fold-append shifted_in 0 (reverse xs) (x ∷ []) ∙ ap (λ (n : ℕ). shifted_in n x) more ∙ shifted_in_is (packed xs) x below
 
 decoded_code : (a : Answer) → decoded (code a % 4) ≡ a
 decoded_code Pending = refl

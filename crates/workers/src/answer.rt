@@ -1,7 +1,7 @@
-// An answer of a pattern.
-#[derive(Clone, Copy)]
+// An answer of a pattern, with its two bits.
+#[derive(Clone, Copy, PartialEq, Eq, Debug)]
 pub enum Answer {
-    Ready,
-    Pending,
-    Failed,
+    Pending = 0,
+    Ready = 1,
+    Failed = 2,
 }

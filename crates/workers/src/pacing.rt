@@ -46,10 +46,7 @@ impl Service for Paced {
     }
 
     fn call(&mut self, request: u64, at: u64) -> Result<u64, ServiceRefusal> {
-        if self.grant.is_none() {
-            return Err(ServiceRefusal::NoGrant);
-        }
-        self.grant = None;
+        self.grant.take().ok_or(ServiceRefusal::NoGrant)?;
         self.free = at.saturating_add(request);
         Ok(self.free)
     }

@@ -1,7 +1,7 @@
 // The service that answers by a pattern.
 ghost use Rattle.std.specs.Prelude.{◌≡◌, ◌≤◌, length, IfOk, None, MatchResult};
 ghost use Rattle.service.specs.Numbers.{invalid_number};
-ghost use Rattle.workers.specs.Patterns.{code, packed, patterned_serves, new_patterned};
+ghost use Rattle.workers.specs.Patterns.{packed, patterned_serves, new_patterned};
 ghost use Rattle.workers.specs.Turns.{AnswersInTurn, CountsCalls};
 
 use crate::answer::Answer;
@@ -13,33 +13,20 @@ use service::refusal::{Invalid, ServiceRefusal};
 // The most answers that a pattern has.
 const LONGEST: usize = 32;
 
-impl Answer {
-    // The answer in two bits.
-    fn code(self) -> u64
-        ensures { result ≡ code self }
-    {
-        match self {
-            Answer::Pending => 0,
-            Answer::Ready => 1,
-            Answer::Failed => 2,
-        }
-    }
-}
-
 // Two bits for each answer, the first in the lowest.
 fn pack(pattern: &[Answer]) -> u64
     requires { length pattern.now ≤ 32 }
     ensures { result ≡ packed pattern.now }
 {
-    let mut answers = 0;
-    for i in (0..pattern.len()).rev() {
-        answers = pattern[i].code() + 4 * answers;
-    }
-    answers
+    pattern
+        .iter()
+        .rev()
+        .fold(0, |answers, answer| (answers << 2) | *answer as u64)
 }
 
 impl Patterned {
     // A service that gives these answers in turn; there are at most 32.
+    #[tactic(auto, using(crate::proofs::Turns::in_turns, crate::proofs::Turns::counts_calls))]
     pub fn new(pattern: &[Answer]) -> Result<Self, Invalid>
         ensures answer { result ≡ new_patterned pattern.now }
         ensures grant { MatchResult result (λ p. patterned_serves.grant p ≡ None) (λ e. invalid_number e ≡ 13) }
@@ -75,6 +62,7 @@ impl Service for Patterned {
 
     fn poll_ready(&mut self, at: u64) -> Readiness<u8> {
         let place = self.next % 32;
+        // two bits of the packed answers
         let answer = match (self.answers >> (2 * place)) % 4 {
             0 => Readiness::Pending,
             1 => Readiness::Ready,
@@ -89,10 +77,7 @@ impl Service for Patterned {
     }
 
     fn call(&mut self, _request: u32, _at: u64) -> Result<u64, ServiceRefusal> {
-        if self.grant.is_none() {
-            return Err(ServiceRefusal::NoGrant);
-        }
-        self.grant = None;
+        self.grant.take().ok_or(ServiceRefusal::NoGrant)?;
         self.calls = self.calls.saturating_add(1);
         Ok(self.calls)
     }

@@ -1,14 +1,12 @@
 use Rattle.std.proofs.Common.{sym, ap, ◌∙◌}
-use Rattle.ready_cache.specs.View.{view as cache_view}
-use Rattle.docket.specs.View.{view as docket_view}
 use Rattle.balance_model.proofs.Dockets.{removed_none, complete_unknown}
 use Rattle.balance.proofs.completion.complete.Goals as goal
 
 pub returns-in_default : goal.returns-in_default
 returns-in_default g c =
     let a = c.in_default.ensures in
-    let cache = cache_view c.args.cache.now in
-    let docket = docket_view c.args.docket.now in
+    let cache = c.args.cache.now in
+    let docket = c.args.docket.now in
     let whole = complete_unknown g.S.Endpoint.means c.args.at cache docket c.args.ticket (sym a.answer) in
     record {
       answer = sym (ap (λ o. o.answer) whole);

@@ -1,16 +1,15 @@
 use Rattle.std.proofs.Common.{length}
 use Rattle.balance_model.specs.Balance.{settle_all}
-use Rattle.ready_cache.specs.View.{view as cache_view}
-use Rattle.balance.specs.View.{SettleLeft}
+use Rattle.balance.specs.Steps.{SettleLeft}
 use Rattle.balance.proofs.search.settle.Given as goal
 
 abbrev pub invariant-loop-lost : goal.invariant-loop-lost
 invariant-loop-lost g l =
     SettleLeft
-    (settle_all g.K.Key.sameness g.S.Endpoint.means l.at (cache_view l.cache))
-    (settle_all g.K.Key.sameness g.S.Endpoint.means l.at (cache_view l.initial.cache))
+    (settle_all g.K.Key.sameness g.S.Endpoint.means l.at l.cache)
+    (settle_all g.K.Key.sameness g.S.Endpoint.means l.at l.initial.cache)
     l.lost
-    (length (cache_view l.cache).pending)
+    (length l.cache.pending)
 
 abbrev pub decreases-loop-lost : goal.decreases-loop-lost
-decreases-loop-lost g l = length (cache_view l.cache).pending
+decreases-loop-lost g l = length l.cache.pending

@@ -1,10 +1,9 @@
 use Rattle.std.proofs.Common.{◌<◌, ◌||◌, ltb, [], ◌∷◌, length, get_or, take, set, is_some, sym, ap, ◌∙◌, arith}
-use Rattle.std.proofs.lemmas.List.{set-set, get_or-set_same, length-take-le}
+use Rattle.std.proofs.lemmas.List.{length-take-le, take_more_set, get_or-take}
 use Rattle.std.proofs.lemmas.Bool.{lt-ltb}
-use Rattle.lists.proofs.Places.{not_found}
-use Rattle.cache_model.specs.declared.entry.Entry.{Entry}
+use Rattle.lists.proofs.Places.{not_found, take_set_in}
 use Rattle.cache_model.specs.Entries.{has_key}
-use Rattle.entries.proofs.Lists.{change_front, renewed, promote_is}
+use Rattle.entries.proofs.Lists.{changed_at, renewed, promote_is}
 use Rattle.ready_cache.proofs.pass.promote.Goals as goal
 
 pub returns-in-Some : goal.returns-in-Some
@@ -16,32 +15,30 @@ returns-in-Some g c =
     let i = c.in-Some.i in
     let d = c.index-items-i.result in
     let place = c.in-Some.ensures.answer in
-    let within = c.in-Some.ensures.within in
-    let old = get_or xs i d in
-    let half : Entry _ _ = record { key = old.key; endpoint = e.endpoint; serial = old.serial; cancelled = old.cancelled } in
-    let same = get_or-set_same xs i half c.index-items-i-in-Some.result within.1 in
+    let within : i < n = omega (arith, c.in-Some.ensures.within, length-take-le n xs c.requires) in
     record {
-      place = ap (λ o. is_some o || ltb (length (take n xs)) c.args.capacity) (sym place);
+      place = ap (λ o. is_some o || ltb (length (take n xs)) (length xs)) (sym place);
       list =
-          ap (take n) (set-set xs i half _ ∙ ap (λ z. set xs i (record { key = z.key; endpoint = z.endpoint; serial = e.serial; cancelled = z.cancelled })) same)
-          ∙ change_front (has_key keys e.key) (renewed keys e) (e ∷ []) xs n i d within.0 within.1 place
+          ap (λ r. take n (set xs i (renewed keys e r))) c.index-items-i.is
+          ∙ take_set_in xs n i (renewed keys e (get_or xs i d))
+          ∙ ap (λ r. set (take n xs) i (renewed keys e r)) (sym (get_or-take n xs i d within))
+          ∙ changed_at (has_key keys e.key) (renewed keys e) (e ∷ []) (take n xs) i d place
           ∙ sym (promote_is keys e (take n xs));
       most = omega arith;
-      within = c.requires.0;
+      within = c.requires;
     }
 
-pub returns-else-len-capacity : goal.returns-else-len-capacity
-returns-else-len-capacity g c =
+pub returns : goal.returns
+returns g c =
     let keys = g.K.Key.sameness in
     let e = c.args.entry in
     let xs = c.args.items.now in
     let n = c.args.len in
-    let place = c.in-None.ensures.answer in
-    let in-slice : n < length xs = omega (arith, c.requires.1) in
-    let long = length-take-le n xs (omega arith) in
+    let place = c.in_default.ensures.answer in
+    let long = length-take-le n xs c.requires in
     record {
-      place = ap (λ o. is_some o || ltb (length (take n xs)) c.args.capacity) (sym place) ∙ lt-ltb (length (take n xs)) c.args.capacity (omega (arith, long, c.if-len-capacity.false));
-      list = c.append.ensures.list in-slice ∙ sym (promote_is keys e (take n xs) ∙ not_found (has_key keys e.key) (renewed keys e) (e ∷ []) (take n xs) (sym place));
+      place = ap (λ o. is_some o || ltb (length (take n xs)) (length xs)) (sym place) ∙ lt-ltb (length (take n xs)) (length xs) (omega (arith, long, c.if-len-items.false));
+      list = take_more_set xs n e (omega arith) ∙ sym (promote_is keys e (take n xs) ∙ not_found (has_key keys e.key) (renewed keys e) (e ∷ []) (take n xs) (sym place));
       most = omega arith;
       within = omega arith;
     }

@@ -1,0 +1,98 @@
+// What a run works on.
+ghost use Rattle.std.specs.Prelude.{◌≡◌, IfOk};
+ghost use Rattle.balance_model.specs.History.{event, after, answer_of, apply_all};
+ghost use Rattle.balance.specs.Steps.{kinds};
+ghost use Rattle.runs.specs.Runs.{state_of, Applied, from_state, Closing};
+
+use crate::ran::Ran;
+use balance::balance::Balance;
+use balance::completion::complete;
+use balance_model::pick::{Answer, Pick};
+use discover::Discover;
+use docket::docket::Docket;
+use ready_cache::cache::ReadyCache;
+use rng::Rng;
+use service::Endpoint;
+use std::alloc::{AllocError, Global};
+
+// A balancer with its cache and its docket.
+#[derive(Drop)]
+pub(crate) struct Router<'a, K, S, D, R> {
+    pub(crate) balance: Balance<D, R>,
+    pub(crate) cache: ReadyCache<'a, K, S>,
+    pub(crate) docket: Docket<'a>,
+}
+
+impl<'a, D: Discover, R: Rng> Router<'a, D::Key, D::Service, D, R>
+where
+    D::Service: Endpoint,
+{
+    // Applies one pick.
+    fn step(
+        &mut self,
+        pick: Pick<<D::Service as Endpoint>::Request>,
+    ) -> Answer<D::Key, <D::Service as Endpoint>::Response, D::Error>
+        ensures answer { result ≡ answer_of (event (kinds D.Key.sameness D.Service.means D.Service.Metric.order D.feeds R.source) (state_of self.old) pick) }
+        ensures after { state_of self.new ≡ after (kinds D.Key.sameness D.Service.means D.Service.Metric.order D.feeds R.source) (state_of self.old) pick }
+    {
+        let Router {
+            balance,
+            cache,
+            docket,
+        } = self;
+        match pick {
+            Pick::Poll { at } => Answer::Polled(balance.poll_ready(cache, at)),
+            Pick::Call { request, at } => Answer::Called(balance.call(cache, docket, request, at)),
+            Pick::Complete { ticket, at } => Answer::Completed(complete(cache, docket, ticket, at)),
+        }
+    }
+
+    // Applies the picks in order, and answers every answer.
+    pub(crate) fn apply_all(
+        &mut self,
+        heap: Global,
+        picks: &[Pick<<D::Service as Endpoint>::Request>],
+    ) -> Result<Vec<Answer<D::Key, <D::Service as Endpoint>::Response, D::Error>>, AllocError>
+        ensures { IfOk result (λ v. Applied v.items (state_of self.new) (apply_all (kinds D.Key.sameness D.Service.means D.Service.Metric.order D.feeds R.source) (from_state (state_of self.old)) picks.now)) }
+    {
+        let mut answers = Vec::new(heap);
+        for pick in picks {
+            answers.push(self.step(*pick))?;
+        }
+        Ok(answers)
+    }
+
+    // The answers with copies of both lists and of the docket.
+    pub(crate) fn closing(
+        self,
+        heap: Global,
+        answers: Vec<Answer<D::Key, <D::Service as Endpoint>::Response, D::Error>>,
+    ) -> Result<
+        Ran<D::Key, D::Service, <D::Service as Endpoint>::Response, D, D::Error, R>,
+        AllocError,
+    >
+    where
+        D: Drop,
+        R: Drop,
+        ensures { IfOk result (λ x. Closing x answers.items (state_of self.entry)) }
+    {
+        let Router {
+            balance,
+            cache,
+            docket,
+        } = self;
+        let ready = Vec::from_slice(heap, cache.iter_ready().as_slice())?;
+        let pending = Vec::from_slice(heap, cache.iter_pending().as_slice())?;
+        let records = Vec::from_slice(heap, docket.iter().as_slice())?;
+        Ok(Ran {
+            answers,
+            balance,
+            ready,
+            pending,
+            resume: cache.resume(),
+            next_serial: cache.next_serial(),
+            records,
+            next_ticket: docket.next_ticket(),
+        })
+    }
+}
