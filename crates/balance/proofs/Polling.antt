@@ -11,17 +11,9 @@ use Rattle.balance_model.specs.Balance.{Balancer, Fed, read_feed, Settled, settl
 use Rattle.balance.proofs.Calling.{admitted}
 use Rattle.balance.specs.Steps.{FedAs, SettledAs, SoughtAs}
 
-fault_is : {K F : Type 0} (o : Option (PollError K F)) (x : PollError K F) → ◌≡◌ {A = Result (Unit {0}) (PollError K F)} (Err x) (by_some o (Ok tt) Err) → o ≡ Some x
-fault_is None x e = cc
-fault_is (Some y) x e = let s : y ≡ x = cc in ap Some s
-
 not_stuck : {K F : Type 0} (o : Option K) (n k : ℕ) → ◌≡◌ {A = Result ℕ (PollError K F)} (Ok n) (by_some o (Ok k) (λ x. Err (NoPlace x))) → (o ≡ None) × (n ≡ k)
 not_stuck None n k e = (refl, cc)
 not_stuck (Some x) n k e = cc
-
-stuck_at : {K F : Type 0} (o : Option K) (x : PollError K F) (k : ℕ) → ◌≡◌ {A = Result ℕ (PollError K F)} (Err x) (by_some o (Ok k) (λ y. Err (NoPlace y))) → (y : K) × (o ≡ Some y) × (x ≡ NoPlace y)
-stuck_at None x k e = cc
-stuck_at (Some y) x k e = (y, refl, cc)
 
 is_fresh : (o : Option ℕ) → is_some o ≡ by_some o false (λ _. true)
 is_fresh None = refl
@@ -36,26 +28,6 @@ pub record PolledAs {K S E D F R : Type 0} (p : PollOutcome K S E D F R) (r : Re
 -- the same by another term for the balancer before
 polled_at : {K S Q A E W D F R : Type 0} (m : Meanings K S Q A E W D F R) (now : ℕ) (v b b₁ : Balancer D R) (c c₁ : Cache K S) (r : Result Polled (PollError K F)) → v ≡ b → PolledAs (poll m now v c) r b₁ c₁ → PolledAs (poll m now b c) r b₁ c₁
 polled_at {D = D} {R = R} m now v b b₁ c c₁ r is p = subst (λ (x : Balancer D R). PolledAs (poll m now x c) r b₁ c₁) is p
-
--- the feed, or a refused push, ends the poll
-pub poll_faults : {K S Q A E W D F R : Type 0} (m : Meanings K S Q A E W D F R) (now : ℕ) (b b' b₀ b₁ : Balancer D R) (c c₁ : Cache K S) (x : PollError K F) →
-    b ≡ b' → b₀ ≡ record { feed = b.feed; words = b.words; budget = b.budget; selected = b.selected; fresh = false } →
-    FedAs (read_feed m now b.budget b.feed b.selected c) (Err x) b₀ b₁ c₁ →
-    PolledAs (poll m now b' c) (Err x) b₁ c₁
-poll_faults {K} {S} {E = E} {D = D} {F = F} {R = R} m now b b' b₀ b₁ c c₁ x opened stale fed_as =
-    let fed : Fed K S D F = read_feed m now b.budget b.feed b.selected c in
-    let settled : Settled K S E = settle_all m.keys m.endpoints now fed.cache in
-    let sought : Sought K S E R = select m now fed.selected settled.cache b.words in
-    let put_together : Option (PollError K F) → PollOutcome K S E D F R = λ fault.
-    by_some fault
-    (by_some settled.stuck (ended m now b fed settled sought) (λ k. faulted m now b fed (NoPlace k) settled.cache settled.asked))
-    (λ f. faulted m now b fed f fed.cache []) in
-    let whole : poll m now b c ≡ faulted m now b fed x fed.cache [] = ap put_together (fault_is fed.fault x fed_as.answer) in
-    polled_at m now b b' b₁ c c₁ (Err x) opened (record {
-      answer = sym (ap (λ (p : PollOutcome K S E D F R). p.answer) whole);
-      after = (fed_as.balancer ∙ ap (λ (y : Balancer D R). record { feed = fed.feed; words = y.words; budget = y.budget; selected = fed.selected; fresh = y.fresh }) stale) ∙ sym (ap (λ (p : PollOutcome K S E D F R). p.balancer) whole);
-      cache = fed_as.cache ∙ sym (ap (λ (p : PollOutcome K S E D F R). p.cache) whole);
-    })
 
 module _ {K S Q A E W D F R : Type 0} (m : Meanings K S Q A E W D F R) (now : ℕ) (b b' b₀ b₁ : Balancer D R) (c c₁ c₂ : Cache K S)
     (opened : b ≡ b')
@@ -83,20 +55,6 @@ module _ {K S Q A E W D F R : Type 0} (m : Meanings K S Q A E W D F R) (now : �
         by_some fault
         (by_some stuck (ended m now b fed settled sought) (λ k. faulted m now b fed (NoPlace k) settled.cache settled.asked))
         (λ f. faulted m now b fed f fed.cache [])
-
-    -- ---- no place among the ready
-
-    pub poll_sticks : (x : PollError K F) → SettledAs (settle_all m.keys m.endpoints now c₁) (Err x) c₂ →
-        PolledAs (poll m now b' c) (Err x) b₁ c₂
-    poll_sticks x at_first =
-        let s : SettledAs settled (Err x) c₂ = subst (λ (z : Cache K S). SettledAs (settle_all m.keys m.endpoints now z) (Err x) c₂) fed_as.cache at_first in
-        let k = stuck_at settled.stuck x settled.lost s.answer in
-        let whole : poll m now b c ≡ faulted m now b fed (NoPlace k.0) settled.cache settled.asked = ap₂ put_together fault_none k.1 in
-        polled_at m now b b' b₁ c c₂ (Err x) opened (record {
-          answer = ap Err k.2 ∙ sym (ap (λ (p : PollOutcome K S E D F R). p.answer) whole);
-          after = first_balancer ∙ sym (ap (λ (p : PollOutcome K S E D F R). p.balancer) whole);
-          cache = s.cache ∙ sym (ap (λ (p : PollOutcome K S E D F R). p.cache) whole);
-        })
 
     -- ---- the poll comes to its end
 

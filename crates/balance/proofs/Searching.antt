@@ -1,24 +1,20 @@
 -- One turn of the search for a ready worker, and one pass over pending.
 use Rattle.std.proofs.Common.{◌≡◌, ℕ, ◌+◌, ◌<◌, ◌≤◌, Bool, true, false, cond, eqb, ◌⊎◌, [], length, is_some, Some, None, Ok, Err, Option, Result, sym, refl, ap, ◌∙◌, subst, inl, inr, arith}
-use Rattle.std.proofs.lemmas.Bool.{eqb-true, eqb-false, lt-ltb, le-ltb, cases_lt}
-use Rattle.model.specs.Options.{by_some}
-use Rattle.model.proofs.Cases.{no_some}
+use Rattle.std.proofs.lemmas.Bool.{eqb-false, lt-ltb, le-ltb, cases_lt}
 use Rattle.model.proofs.Lists.{at_past}
 use Rattle.cache_model.specs.declared.error.Failed.{Failed}
 use Rattle.service.specs.declared.poll.Poll.{Poll}
 use Rattle.cache_model.specs.declared.error.PendingError.{PendingError}
 use Rattle.cache_model.specs.declared.error.PendingError.TheVariants as pending
-use Rattle.balance_model.specs.declared.answer.PollError.{PollError}
-use Rattle.balance_model.specs.declared.answer.PollError.TheVariants.{NoPlace}
 use Rattle.cache_model.specs.Answers.{by_check}
-use Rattle.cache_model.specs.Cache.{Cache, Asked, held, check, poll_pending}
+use Rattle.cache_model.specs.Cache.{Cache, held, check, poll_pending}
 use Rattle.cache_model.proofs.Shrinks.{check_falls, check_held, poll_pending_falls}
 use Rattle.service.specs.Meaning.{Sameness, Endpoints}
 use Rattle.balance_model.specs.Meanings.{Meanings}
 use Rattle.balance_model.specs.Draw.{Drawn, draw}
 use Rattle.balance_model.specs.Balance.{Balancer, Sought, after_these, try, seek_all, select, Settled, settle_all}
-use Rattle.balance_model.proofs.Loops.{seek_none, seek_some, draw_within, draw_pending, settle_lost, settle_end, settle_stuck}
-use Rattle.balance.specs.Steps.{drawn_place, with_words, check_selected, lost_by, loses_one, SettledAs, SoughtAs, SearchLeft, SettleLeft, unsure}
+use Rattle.balance_model.proofs.Loops.{seek_some, draw_within, draw_pending, settle_lost}
+use Rattle.balance.specs.Steps.{drawn_place, with_words, check_selected, lost_by, loses_one, SearchLeft, SettleLeft, unsure}
 
 module _ {K S Q A E W D F R : Type 0} (m : Meanings K S Q A E W D F R) (now : ℕ) (selected : Option ℕ) (c c₁ c₂ : Cache K S) (whole : Sought K S E R) (lost first gone : ℕ) (b b₁ before : Balancer D R)
     (left : SearchLeft (select m now selected c b.words) whole lost first c b before)
@@ -40,7 +36,7 @@ module _ {K S Q A E W D F R : Type 0} (m : Meanings K S Q A E W D F R) (now : �
         by_answer : (i : ℕ) (v : Result Bool (Failed K E)) → Some gone ≡ lost_by v →
             let k = check m.keys m.endpoints now c i in
             Missed (by_check v (record { place = Some i; cache = k.after; words = b.words; lost = 0; asked = k.asked; draws = [] }) (after_these k.asked [] 0 (seek_all m now k.after b.words)) (after_these k.asked [] 1 (seek_all m now k.after b.words))) (seek_all m now k.after b.words)
-        by_answer i (Ok true) e = absurd (no_some (sym e))
+        by_answer i (Ok true) e = cc
         by_answer i (Ok false) e = record { place = refl; cache = refl; words = refl; count = let z : gone ≡ 0 = cc in omega arith }
         by_answer i (Err x) e = record { place = refl; cache = refl; words = refl; count = let z : gone ≡ 1 = cc in omega arith }
 
@@ -57,12 +53,9 @@ module _ {K S Q A E W D F R : Type 0} (m : Meanings K S Q A E W D F R) (now : �
         by_selected (Some i) e = go (check m.keys m.endpoints now c i).answer e (check_held m.keys m.endpoints now c i)
           where
             go : (v : Result Bool (Failed K E)) → Some gone ≡ lost_by v → held (check m.keys m.endpoints now c i).after + by_check v 0 0 1 ≤ held c → held (check m.keys m.endpoints now c i).after + gone ≤ held c
-            go (Ok true) e h = absurd (no_some (sym e))
+            go (Ok true) e h = cc
             go (Ok false) e h = let z : gone ≡ 0 = cc in omega arith
             go (Err x) e h = let z : gone ≡ 1 = cc in omega arith
-
-    pub lost_fits : lost + gone ≤ 8192
-    lost_fits = let h = held_after in let f = left.fits in omega arith
 
     abbrev d : Drawn K S R
     d = draw m.endpoints m.weights now m.words c₁ b.words
@@ -70,33 +63,11 @@ module _ {K S Q A E W D F R : Type 0} (m : Meanings K S Q A E W D F R) (now : �
     same_balancer : b₁ ≡ with_words before b₁.words
     same_balancer = drawn_words ∙ ap (λ (x : Balancer D R). with_words x d.words) left.same ∙ ap (λ (r : R). with_words before r) (sym (ap (λ (x : Balancer D R). x.words) drawn_words))
 
-    -- ---- nobody is ready
-
-    pub search_ends : None ≡ drawn_place c₁ d → SoughtAs whole first (None, lost + gone) before b₁ c₂
-    search_ends none =
-        let z : length c₁.ready ≡ 0 = empty (eqb (length c₁.ready) 0) refl none in
-        let over = seek_none m now c₁ b.words z in
-        let k = missed in
-        let still : d ≡ record { place = 0; cache = c₁; words = b.words; draws = [] } = rw (lt-ltb (length c₁.ready) 2 (omega arith)) refl in
-        let count = left.count in
-        let more = k.count in
-        let nobody : (seek_all m now c₁ b.words).lost ≡ 0 = ap (λ (s : Sought K S E R). s.lost) over in
-        record {
-          place = sym (ap (λ (s : Sought K S E R). s.place) over) ∙ sym k.place ∙ left.place;
-          count = omega arith;
-          balancer = same_balancer ∙ ap (with_words before) (ap (λ (x : Balancer D R). x.words) drawn_words ∙ ap (λ (x : Drawn K S R). x.words) still ∙ sym (ap (λ (s : Sought K S E R). s.words) over) ∙ sym k.words ∙ left.words);
-          cache = drawn_cache ∙ ap (λ (x : Drawn K S R). x.cache) still ∙ sym (ap (λ (s : Sought K S E R). s.cache) over) ∙ sym k.cache ∙ left.cache;
-        }
-      where
-        empty : (t : Bool) → eqb (length c₁.ready) 0 ≡ t → None ≡ cond t None (Some d.place) → length c₁.ready ≡ 0
-        empty true e n = eqb-true (length c₁.ready) 0 e
-        empty false e n = absurd (no_some n)
-
     -- ---- another is drawn
 
     module _ (place : ℕ) (some : Some place ≡ drawn_place c₁ d) where
       drawn : (t : Bool) → eqb (length c₁.ready) 0 ≡ t → Some place ≡ cond t None (Some d.place) → (0 < length c₁.ready) × (place ≡ d.place)
-      drawn true e n = absurd (no_some (sym n))
+      drawn true e n = cc
       drawn false e n = let f = eqb-false (length c₁.ready) 0 e in (positive (length c₁.ready) f, cc)
         where
           positive : (n : ℕ) → (n ≡ 0 → ⊥) → 0 < n
@@ -153,7 +124,7 @@ module _ {K S Q A E W D F R : Type 0} (m : Meanings K S Q A E W D F R) (now : �
           before_check (Some i) e l = go (cases_lt i (length c.ready))
             where
               not_yes : (v : Result Bool (Failed K E)) → Some gone ≡ lost_by v → v ≡ Ok true → ⊥
-              not_yes (Ok true) e q = no_some (sym e)
+              not_yes (Ok true) e q = cc
               not_yes (Ok false) e q = cc
               not_yes (Err x) e q = cc
 
@@ -167,10 +138,6 @@ module _ {K S Q A E W D F R : Type 0} (m : Meanings K S Q A E W D F R) (now : �
 
     -- ---- by what the draw answers
 
-    pub ends_at : (o : Option ℕ) → o ≡ drawn_place c₁ d → is_some o ≡ false → SoughtAs whole first (None, lost + gone) before b₁ c₂
-    ends_at None e t = search_ends e
-    ends_at (Some i) e t = cc
-
     pub again_at : (o : Option ℕ) → o ≡ drawn_place c₁ d → is_some o ≡ true → SearchLeft (select m now o c₂ b₁.words) whole (lost + gone) first c₂ b₁ before
     again_at None e t = cc
     again_at (Some i) e t = search_goes_on i e
@@ -178,25 +145,6 @@ module _ {K S Q A E W D F R : Type 0} (m : Meanings K S Q A E W D F R) (now : �
     pub falls_at : (o : Option ℕ) → o ≡ drawn_place c₁ d → is_some o ≡ true → length c₂.ready + unsure o (length c₂.ready) < length c.ready + unsure selected (length c.ready)
     falls_at None e t = cc
     falls_at (Some i) e t = search_falls i e
-
--- ---- the worker asked is ready
-
-pub ready_at : {K S Q A E W D F R : Type 0} (m : Meanings K S Q A E W D F R) (now : ℕ) (selected : Option ℕ) (c c₁ : Cache K S) (whole : Sought K S E R) (lost first : ℕ) (b before : Balancer D R) →
-    SearchLeft (select m now selected c b.words) whole lost first c b before → None ≡ lost_by (check_selected m.keys m.endpoints now c selected).answer → c₁ ≡ (check_selected m.keys m.endpoints now c selected).after →
-    SoughtAs whole first (selected, lost) before b c₁
-ready_at m now None c c₁ whole lost first b before left none after = absurd (no_some none)
-ready_at {K} {S} {E = E} {R = R} m now (Some i) c c₁ whole lost first b before left none after = go k.answer none left.place left.cache left.words left.count
-  where
-    k : Asked (Result Bool (Failed K E)) K S E
-    k = check m.keys m.endpoints now c i
-
-    tried : Result Bool (Failed K E) → Sought K S E R
-    tried v = by_check v (record { place = Some i; cache = k.after; words = b.words; lost = 0; asked = k.asked; draws = [] }) (after_these k.asked [] 0 (seek_all m now k.after b.words)) (after_these k.asked [] 1 (seek_all m now k.after b.words))
-
-    go : (v : Result Bool (Failed K E)) → None ≡ lost_by v → (tried v).place ≡ whole.place → (tried v).cache ≡ whole.cache → (tried v).words ≡ whole.words → lost + (tried v).lost ≡ first + whole.lost → SoughtAs whole first (Some i, lost) before b c₁
-    go (Ok true) n p q w l = record { place = p; count = omega arith; balancer = left.same ∙ ap (with_words before) w; cache = after ∙ q }
-    go (Ok false) n p q w l = absurd (no_some n)
-    go (Err x) n p q w l = absurd (no_some n)
 
 -- ---- the passes over pending
 
@@ -236,32 +184,4 @@ module _ {K S Q A E W : Type 0} (keys : Sameness K) (ends : Endpoints S Q A E W)
           count = omega arith;
           fits = omega arith;
         }
-
     -- a pass that lost nobody is the last
-    pub settle_ends : {F : Type 0} → Ok false ≡ loses_one {F = F} answer → SettledAs {F = F} whole (Ok lost) c'
-    settle_ends {F} said = go answer refl said
-      where
-        go : (v : Result (Poll (Unit {0})) (PendingError K E)) → answer ≡ v → Ok false ≡ loses_one {F = F} v → SettledAs {F = F} whole (Ok lost) c'
-        go (Ok p) e s =
-            let step = settle_end keys ends now c p e in
-            let fits = left.fits in
-            let count = left.count in
-            let none : (settle_all keys ends now c).lost ≡ 0 = ap (λ (s : Settled K S E). s.lost) step in
-            let stuck : whole.stuck ≡ None = sym left.stuck ∙ ap (λ (s : Settled K S E). s.stuck) step in
-            let same : lost ≡ whole.lost = omega arith in
-            record { answer = rw (stuck, same) refl; cache = after ∙ sym (ap (λ (s : Settled K S E). s.cache) step) ∙ left.cache; few = omega arith }
-        go (Err (pending.NoPlace k)) e s = cc
-        go (Err (pending.Failed x)) e s = cc
-
-    -- one that found no place is the last too
-    pub settle_sticks : {F : Type 0} (r : PollError K F) → Err r ≡ loses_one answer → SettledAs whole (Err r) c'
-    settle_sticks {F} r said = go answer refl said
-      where
-        go : (v : Result (Poll (Unit {0})) (PendingError K E)) → answer ≡ v → Err r ≡ loses_one v → SettledAs whole (Err r) c'
-        go (Ok p) e s = cc
-        go (Err (pending.NoPlace k)) e s =
-            let step = settle_stuck keys ends now c k e in
-            let stuck : whole.stuck ≡ Some k = sym left.stuck ∙ ap (λ (s : Settled K S E). s.stuck) step in
-            let q : r ≡ NoPlace k = cc in
-            record { answer = ap Err q ∙ ap (λ (o : Option K). by_some o (Ok whole.lost) (λ k. Err (NoPlace k))) (sym stuck); cache = after ∙ sym (ap (λ (s : Settled K S E). s.cache) step) ∙ left.cache; few = tt }
-        go (Err (pending.Failed x)) e s = cc

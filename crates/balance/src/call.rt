@@ -1,4 +1,4 @@
-// Sending a request to the worker that the latest poll named.
+// Sending a request to the worker that the latest poll named. (A balancer owns neither cache nor docket: each call is handed both.)
 ghost use Rattle.std.specs.Prelude.{◌≡◌};
 ghost use Rattle.balance_model.specs.Balance.{call, call_answer};
 ghost use Rattle.balance.specs.Steps.{kinds, state};

@@ -1,4 +1,4 @@
-// The two-choice balancer (tower: balance/p2c).
+// The two-choice balancer (tower: balance/p2c). (A clause names the meanings of key, worker, weight, feed and words by their bounds, as `kinds ..`: there is no shorter form.)
 #![tactic(auto)]
 
 ghost use Rattle.std.specs.Prelude.{◌≡◌};

@@ -13,7 +13,7 @@ use rng::Rng;
 use service::poll::Poll;
 use service::{Endpoint, Key};
 
-// The serial of the ready worker at a place, if there is a place and a worker.
+// The serial of the ready worker at a place, if there is a place and a worker. (No `From`: it would stand in another crate, for this use alone.)
 fn worker_at<K: Key, S: Endpoint>(cache: &ReadyCache<'_, K, S>, place: Option<usize>) -> Poll<u64>
     ensures { result ≡ serial_at cache.now place }
 {

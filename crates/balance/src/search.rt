@@ -66,7 +66,7 @@ fn lighter<K: Key, S: Endpoint>(
     }
 }
 
-// Asks the selected worker, if there is one, whether it is ready: none where it is, otherwise how many were lost by asking, which is one if it failed.
+// Asks the selected worker, if there is one, whether it is ready: none where it is, otherwise how many were lost by asking, which is one if it failed. (A number, and no mark, since the caller adds it up.)
 fn ask_selected<K: Key, S: Endpoint>(
     cache: &mut ReadyCache<'_, K, S>,
     selected: Option<usize>,

@@ -3,7 +3,7 @@ use Rattle.model.specs.Outcome.{Outcome, outcome}
 use Rattle.model.specs.Options.{by_result, Has}
 use Rattle.model.specs.Lists.{at, swap_remove, Each}
 use Rattle.model.specs.Sums.{one_if}
-use Rattle.model.proofs.Cases.{no_some, cond_case, some_case, some_is}
+use Rattle.model.proofs.Cases.{cond_case, some_case, some_is}
 use Rattle.model.proofs.Totals.{total, total_append, total_mono, total_swap, total_swap_le}
 use Rattle.model.proofs.Places.{each_append, each_map}
 use Rattle.service.specs.Meaning.{Endpoints, refused_by, ceiling}
@@ -46,18 +46,18 @@ module _ {S Q A E W : Type 0} (ends : Endpoints S Q A E W) where
   granted_number : (s : S) (t : ℕ) (r : EndpointRefusal) → ends.grant s ≡ Some t → refused_by ends s ≡ Some r → call_number (as_call r) ≡ 5
   granted_number s t r g =
       some_case (λ (o : Option EndpointRefusal). o ≡ Some r → call_number (as_call r) ≡ 5) (ends.grant s) _ _
-      (λ none. absurd (no_some (sym none ∙ g)))
+      (λ none. cc)
       (λ _ _. cond_case (λ (o : Option EndpointRefusal). o ≡ Some r → call_number (as_call r) ≡ 5) (ltb (ends.count s) ceiling) _ _
-      (λ _ e. absurd (no_some e))
+      (λ _ e. cc)
       (λ _ e. let q : AtCeiling ≡ r = cc in ap (λ (x : EndpointRefusal). call_number (as_call x)) (sym q)))
 
   not_refused : (s : S) → refused_by ends s ≡ None → ends.count s < ceiling
   not_refused s =
       some_case (λ (o : Option EndpointRefusal). o ≡ None → ends.count s < ceiling) (ends.grant s) _ _
-      (λ _ e. absurd (no_some (sym e)))
+      (λ _ e. cc)
       (λ _ _. cond_case (λ (o : Option EndpointRefusal). o ≡ None → ends.count s < ceiling) (ltb (ends.count s) ceiling) _ _
       (λ t _. ltb-true (ends.count s) ceiling t)
-      (λ _ e. absurd (no_some (sym e))))
+      (λ _ e. cc))
 
 module _ {K S Q A E W D F R : Type 0} (m : Meanings K S Q A E W D F R) (now : ℕ) where
   -- a call that is refused changes nothing but the history
@@ -82,7 +82,7 @@ module _ {K S Q A E W D F R : Type 0} (m : Meanings K S Q A E W D F R) (now : �
   -- with a selected worker nothing is spent
   not_spent : (b : Balancer D R) (rs : List (Entry K S)) (h : History K S A E F) → Selected m.endpoints b rs h → NobodyNamed h → ⊥
   not_spent b rs h s (inl none) = subst (λ (o : Option (Latest K S E F)). Has o (λ l. Granted l.log s.entry.serial)) none s.said
-  not_spent b rs h s (inr (inl nobody)) = absurd (no_some (sym nobody ∙ s.named))
+  not_spent b rs h s (inr (inl nobody)) = cc
   not_spent b rs h s (inr (inr since)) = subst T s.unsent since
 
   refused_right : (b : Balancer D R) (rs : List (Entry K S)) (h : History K S A E F) (r : CallError) → Selected m.endpoints b rs h → 5 ≤ call_error_number r → (call_error_number r ≡ 6 → ⊥) → CallRight h (Err r)
@@ -315,7 +315,7 @@ module _ {K S Q A E W D F R : Type 0} (m : Meanings K S Q A E W D F R) (now : �
         let s = o.fresh (not-false b.fresh fresh) in
         some_case Goal (docket_refuses st.docket) _ _
         (λ _. some_case Goal b.selected _ _
-        (λ none. absurd (no_some (sym none ∙ s.chosen)))
+        (λ none. cc)
         (λ i chosen.
         let p : s.place ≡ i = cc s.chosen in
         subst (λ (j : ℕ). Goal (call_at m now st q j)) p (call_at_holds s)))

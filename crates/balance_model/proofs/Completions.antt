@@ -6,7 +6,6 @@ use Rattle.model.specs.Sums.{one_if}
 use Rattle.model.proofs.Cases.{some_case}
 use Rattle.model.proofs.Totals.{total, total_swap, total_swap_le}
 use Rattle.model.proofs.Places.{each_map, each_at, each_swap, place_test}
-use Rattle.model.proofs.Std.{position_is}
 use Rattle.cache_model.specs.Cache.{Cache, finish}
 use Rattle.cache_model.proofs.Steps.{sum_held}
 use Rattle.cache_model.proofs.Serials.{is_pair}
@@ -179,7 +178,7 @@ module _ {K S Q A E W D F R : Type 0} (m : Meanings K S Q A E W D F R) (now tick
       (λ i found. some_case Goal (at d.records i) _ _
       (λ _. refused_holds b c d h UnknownTicket o)
       (λ gone here.
-      let it_is : gone.ticket ≡ ticket = eqb-true gone.ticket ticket (place_test (λ s. eqb s.ticket ticket) d.records i gone (sym (position_is _ d.records) ∙ found) here) in
+      let it_is : gone.ticket ≡ ticket = eqb-true gone.ticket ticket (place_test (λ s. eqb s.ticket ticket) d.records i gone found here) in
       done_holds b c _ d h o i gone here it_is (finish_told m.keys m.endpoints now c gone.serial gone.sent) _))
     where
       Goal : CompleteOutcome K S → Type 0

@@ -1,10 +1,9 @@
 -- A docket that has no record of a ticket stays as it is.
-use Rattle.std.proofs.Common.{◌≡◌, ℕ, eqb, None, Ok, Err, Option, sym, refl, ap, ◌∙◌}
+use Rattle.std.proofs.Common.{◌≡◌, ℕ, eqb, None, Ok, Err, Option, refl, ap}
 use Rattle.model.specs.Outcome.{Outcome}
 use Rattle.model.specs.Options.{by_some}
-use Rattle.model.proofs.Cases.{no_some, some_case}
+use Rattle.model.proofs.Cases.{some_case}
 use Rattle.model.proofs.Places.{place_there}
-use Rattle.model.proofs.Std.{position_is}
 use Rattle.balance_model.specs.declared.docket_record.DocketRecord.{DocketRecord}
 use Rattle.service.specs.Meaning.{Endpoints}
 use Rattle.cache_model.specs.Cache.{Cache, finish}
@@ -16,7 +15,7 @@ pub removed_none : (d : Docket) (ticket : ℕ) → (removed d ticket).answer ≡
 removed_none d ticket =
     some_case (λ (o : Outcome (Option DocketRecord) Docket). o.answer ≡ None → o.after ≡ d) (ticket_place d ticket) _ _
     (λ _ _. refl)
-    (λ i found none. absurd (no_some (sym none ∙ (place_there (λ r. eqb r.ticket ticket) d.records i (sym (position_is _ d.records) ∙ found)).1)))
+    (λ i found none. cc ((place_there (λ r. eqb r.ticket ticket) d.records i found).1))
 
 -- an unknown ticket is refused, and nothing changes
 pub complete_unknown : {K S Q A E W : Type 0} (ends : Endpoints S Q A E W) (now : ℕ) (c : Cache K S) (d : Docket) (ticket : ℕ) → (removed d ticket).answer ≡ None →

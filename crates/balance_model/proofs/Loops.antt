@@ -52,19 +52,6 @@ module _ {K S Q A E W : Type 0} (keys : Sameness K) (ends : Endpoints S Q A E W)
       ap (going_on c (settle keys ends now (length c.pending) p.after)) e
       ∙ ap (losing_one p.asked) (settle_fuel (length c.pending) (suc (length p.after.pending)) p.after (omega arith) (omega arith))
 
-  -- a pass that reached the end is the last, and so is one that found no place
-  pub settle_end : (c : Cache K S) (x : Poll (Unit {0})) → (poll_pending keys ends now c).answer ≡ Ok x →
-      settle_all keys ends now c ≡ record { cache = (poll_pending keys ends now c).after; lost = 0; asked = (poll_pending keys ends now c).asked; stuck = None }
-  settle_end c x e =
-      let p = poll_pending keys ends now c in
-      ap (going_on c (settle keys ends now (length c.pending) p.after)) e
-
-  pub settle_stuck : (c : Cache K S) (k : K) → (poll_pending keys ends now c).answer ≡ Err (pending.NoPlace k) →
-      settle_all keys ends now c ≡ record { cache = (poll_pending keys ends now c).after; lost = 0; asked = (poll_pending keys ends now c).asked; stuck = Some k }
-  settle_stuck c k e =
-      let p = poll_pending keys ends now c in
-      ap (going_on c (settle keys ends now (length c.pending) p.after)) e
-
 module _ {K S Q A E W D F R : Type 0} (m : Meanings K S Q A E W D F R) (now : ℕ) where
   -- ---- the search for a ready worker
 
@@ -131,11 +118,7 @@ module _ {K S Q A E W D F R : Type 0} (m : Meanings K S Q A E W D F R) (now : �
       go (Ok false) f = ap (after_these k.asked [] 0) (fewer (f (λ e. cc)))
       go (Err x) f = ap (after_these k.asked [] 1) (fewer (f (λ e. cc)))
 
-  -- with nobody ready the search ends
-  pub seek_none : (c : Cache K S) (r : R) → length c.ready ≡ 0 → seek_all m now c r ≡ record { place = None; cache = c; words = r; lost = 0; asked = []; draws = [] }
-  seek_none c r e = ap (λ (n : ℕ). seek m now n c r) e
-
-  -- otherwise one is drawn and tried
+  -- where anybody is ready, one is drawn and tried
   pub seek_some : (c : Cache K S) (r : R) → 0 < length c.ready →
       let d = draw m.endpoints m.weights now m.words c r in
       seek_all m now c r ≡ after_these [] d.draws 0 (try m now (seek_all m now) d.place d.cache d.words)

@@ -1,6 +1,6 @@
 -- The worker that a poll finds granted at the poll's last question, and the draws on the way are fair.
 use Rattle.model.specs.Lists.{at, last_of, Each}
-use Rattle.model.proofs.Cases.{no_some, cond_case, some_case}
+use Rattle.model.proofs.Cases.{cond_case, some_case}
 use Rattle.model.proofs.Places.{at_set_same, last_append, each_append}
 use Rattle.service.specs.declared.readiness.Readiness.{Readiness}
 use Rattle.service.specs.Meaning.{Sameness, Endpoints, Weights, granted_by}
@@ -85,7 +85,7 @@ module _ {K S Q A E W D F R : Type 0} (m : Meanings K S Q A E W D F R) (now : �
       (λ x _. after_right k.asked [] 1 (more k.after r) tt (ih k.after r))
 
   pub seek_right : (fuel : ℕ) (c : Cache K S) (r : R) → Right (seek m now fuel c r)
-  seek_right zero c r = record { found = λ i e. absurd (no_some e); draws = tt }
+  seek_right zero c r = record { found = λ i e. cc; draws = tt }
   seek_right (suc fuel) c r =
       let d = draw m.endpoints m.weights now m.words c r in
       after_right [] d.draws 0 _ (draw_fair c r) (try_right (seek m now fuel) (seek_right fuel) d.place d.cache d.words)

@@ -1,6 +1,6 @@
 -- A search that finds nobody leaves nobody ready.
 use Rattle.model.specs.Lists.{at}
-use Rattle.model.proofs.Cases.{no_some, some_case}
+use Rattle.model.proofs.Cases.{some_case}
 use Rattle.model.proofs.Lists.{at_past}
 use Rattle.cache_model.specs.Cache.{Cache, Asked, check}
 use Rattle.cache_model.proofs.Cases.{check_case}
@@ -9,7 +9,7 @@ use Rattle.balance_model.specs.Meanings.{Meanings}
 use Rattle.balance_model.specs.Draw.{draw}
 use Rattle.balance_model.specs.Balance.{Sought, try, seek, seek_all, select}
 use Rattle.balance_model.proofs.Loops.{draw_within}
-use Rattle.std.proofs.Common.{◌≡◌, ℕ, zero, suc, ◌<◌, ◌≤◌, Bool, true, ◌⊎◌, List, [], ◌∷◌, length, None, Ok, Option, Result, sym, refl, ◌∙◌, inl, inr, arith}
+use Rattle.std.proofs.Common.{◌≡◌, ℕ, zero, suc, ◌<◌, ◌≤◌, Bool, true, ◌⊎◌, List, [], ◌∷◌, length, None, Ok, Option, Result, refl, inl, inr, arith}
 use Rattle.std.proofs.lemmas.Bool.{cases_lt}
 use Rattle.cache_model.specs.declared.error.Failed.{Failed}
 
@@ -32,13 +32,13 @@ module _ {K S Q A E W D F R : Type 0} (m : Meanings K S Q A E W D F R) (now : �
           let past = at_past c.ready i (omega arith) in
           some_case (λ (k : Asked (Result Bool (Failed K E)) K S E). length k.after.ready ≤ fuel) (at c.ready i) _ _
           (λ _. omega arith)
-          (λ e here. absurd (no_some (sym past ∙ here)))
+          (λ e here. cc)
 
   try_nobody : (more : Cache K S → R → Sought K S E R) (i : ℕ) (c : Cache K S) (r : R) →
       (((check m.keys m.endpoints now c i).answer ≡ Ok true → ⊥) → NobodyLeft (more (check m.keys m.endpoints now c i).after r)) → NobodyLeft (try m now more i c r)
   try_nobody more i c r ih =
       check_case NobodyLeft (check m.keys m.endpoints now c i).answer _ _ _
-      (λ _ none. absurd (no_some (sym none)))
+      (λ _ none. cc)
       (λ e. ih (λ yes_it_is. cc))
       (λ x e. ih (λ yes_it_is. cc))
 

@@ -1,7 +1,7 @@
 -- A poll keeps what holds.
 use Rattle.model.specs.Options.{by_some}
 use Rattle.model.specs.Lists.{Each}
-use Rattle.model.proofs.Cases.{no_some, some_case}
+use Rattle.model.proofs.Cases.{some_case}
 use Rattle.model.proofs.Totals.{total, total_mono}
 use Rattle.model.proofs.Places.{last_append, each_map}
 use Rattle.service.specs.declared.poll.Poll.{Poll}
@@ -23,7 +23,7 @@ use Rattle.balance_model.proofs.Feed.{FedRight, of_push, read_feed_right}
 use Rattle.balance_model.proofs.Naming.{Grants, SoughtRight, select_right}
 use Rattle.balance_model.proofs.Nobody.{NobodyLeft, select_nobody}
 use Rattle.balance_model.proofs.Holds.{Holds, Open}
-use Rattle.std.proofs.Common.{◌≡◌, ℕ, suc, ◌<◌, ◌≤◌, Bool, true, false, ◌⊎◌, [], ◌∷◌, ◌++◌, length, Some, None, Ok, Err, Option, Result, sym, refl, ap, ◌∙◌, inl, inr, arith}
+use Rattle.std.proofs.Common.{◌≡◌, ℕ, suc, ◌<◌, ◌≤◌, Bool, true, false, ◌⊎◌, [], ◌∷◌, ◌++◌, length, Some, None, Ok, Err, Option, Result, refl, ap, ◌∙◌, inl, inr, arith}
 use Rattle.std.proofs.lemmas.Bool.{cases_lt}
 use Rattle.service.specs.declared.poll.Poll.TheVariants.{Ready, Pending}
 
@@ -68,7 +68,6 @@ module _ {K S Q A E W D F R : Type 0} (m : Meanings K S Q A E W D F R) (now : �
   not_ended {P} {x} {y} e = cc
 
   poll_right : (b : Balancer D R) (c : Cache K S) → PollRight c (poll m now b c)
-  unfolding poll
   poll_right b c =
       let fed = read_feed m now b.budget b.feed b.selected c in
       let fuel : ℕ = suc (length fed.cache.pending) in
@@ -138,7 +137,7 @@ module _ {K S Q A E W D F R : Type 0} (m : Meanings K S Q A E W D F R) (now : �
         where
           by_fresh : (t : Bool) → p.balancer.fresh ≡ t → (serial : ℕ) → named p.answer ≡ Some serial → Found p
           by_fresh true t serial e = r.found t
-          by_fresh false t serial e = absurd (no_some (sym (r.nobody t) ∙ e))
+          by_fresh false t serial e = cc (r.nobody t)
 
           found : (serial : ℕ) → named p.answer ≡ Some serial → Found p
           found serial e = by_fresh p.balancer.fresh refl serial e

@@ -50,7 +50,6 @@ module _ {K S Q A E W D F R : Type 0} (m : Meanings K S Q A E W D F R) where
       (λ i _. try_took now (seek_all m now) (λ c' r'. seek_took now (length c'.ready) c' r') i c r)
 
   poll_took : (now : ℕ) (b : Balancer D R) (c : Cache K S) → Took m.words b.words (poll m now b c).log.draws (poll m now b c).balancer.words
-  unfolding poll
   poll_took now b c =
       let fed = read_feed m now b.budget b.feed b.selected c in
       let settled = settle m.keys m.endpoints now (suc (length fed.cache.pending)) fed.cache in

@@ -1,8 +1,8 @@
 -- The docket: the requests that were sent and are not completed.
-use Rattle.std.specs.Prelude.{ℕ, ◌+◌, ◌-◌, ◌^◌, min, cond, not, List, [], ◌∷◌, ◌++◌, length, Some, None, Ok, Err, Option, Result, nat_eq, nat_lt, position}
+use Rattle.std.specs.Prelude.{ℕ, ◌+◌, ◌-◌, ◌^◌, min, cond, not, List, [], ◌∷◌, ◌++◌, length, Some, None, Ok, Err, Option, Result, nat_eq, nat_lt}
 use Rattle.model.specs.Outcome.{Outcome, outcome}
 use Rattle.model.specs.Options.{by_some}
-use Rattle.model.specs.Lists.{at, swap_remove}
+use Rattle.model.specs.Lists.{place_of, at, swap_remove}
 use Rattle.balance_model.specs.declared.docket_record.DocketRecord.{DocketRecord}
 use Rattle.balance_model.specs.declared.answer.DocketRefusal.{DocketRefusal}
 use Rattle.balance_model.specs.declared.answer.DocketRefusal.TheVariants.{Full, TicketsSpent}
@@ -33,7 +33,7 @@ note d serial sent = by_some (docket_refuses d) (outcome (Ok d.next) (noted d se
 
 -- the place of a ticket's record
 abbrev pub ticket_place : Docket → ℕ → Option ℕ
-ticket_place d ticket = position (λ r. nat_eq r.ticket ticket) d.records
+ticket_place d ticket = place_of (λ r. nat_eq r.ticket ticket) d.records
 
 abbrev pub without : Docket → ℕ → Docket
 without d i = record { records = swap_remove d.records i; next = d.next; capacity = d.capacity }

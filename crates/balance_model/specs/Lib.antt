@@ -6,3 +6,4 @@ pub mod Balance
 pub mod History
 pub mod Promise
 pub mod Polls
+pub mod Picks

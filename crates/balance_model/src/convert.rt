@@ -1,4 +1,5 @@
 // How faults rise to the balancer, each naming its layer.
+// (Written out, and not derived: a derive is of another library, asks for a text of each error, and says nothing of what `?` gives.)
 ghost use Rattle.std.specs.Prelude.{◌≡◌};
 ghost use Rattle.balance_model.specs.declared.answer.PollError.TheVariants.{Push};
 ghost use Rattle.balance_model.specs.declared.answer.CallError.TheVariants.{Docket, Cache};

@@ -4,7 +4,7 @@ use Rattle.std.proofs.lemmas.Bool.{ne_eqb, eq-eqb, eqb-true}
 use Rattle.model.specs.Outcome.{Outcome}
 use Rattle.model.specs.Lists.{at, place_of, one_more}
 use Rattle.model.specs.Sums.{one_if}
-use Rattle.model.proofs.Cases.{no_some, cond_case}
+use Rattle.model.proofs.Cases.{cond_case}
 use Rattle.model.proofs.Totals.{total, total_mono}
 use Rattle.service.specs.Meaning.{Sameness, Endpoints}
 use Rattle.cache_model.specs.declared.entry.Entry.{Entry}
@@ -71,7 +71,7 @@ module _ {K S Q A E W : Type 0} (keys : Sameness K) (ends : Endpoints S Q A E W)
     pub grant : ends.grant entry.endpoint ≡ ends.grant e.endpoint
 
   at_finish : (xs : List (Entry K S)) (serial sent i : ℕ) (e : Entry K S) → at xs i ≡ Some e → Still (finish_in ends now xs serial sent) i e
-  at_finish [] serial sent i e p = absurd (no_some p)
+  at_finish [] serial sent i e p = cc
   at_finish (x ∷ xs) serial sent zero e p =
       let q : x ≡ e = cc in
       cond_case (λ (ys : List (Entry K S)). Still ys 0 e) (eqb x.serial serial) _ _
@@ -87,17 +87,17 @@ module _ {K S Q A E W : Type 0} (keys : Sameness K) (ends : Endpoints S Q A E W)
   no_serial serial (x ∷ xs) e = go (eqb x.serial serial) (place_of (has_serial serial) xs) e (no_serial serial xs)
     where
       go : (p : Bool) (o : Option ℕ) → is_some (cond p (Some 0) (one_more o)) ≡ false → (is_some o ≡ false → total (worker (is_serial serial)) xs ≡ 0) → one_if p + total (worker (is_serial serial)) xs ≡ 0
-      go true o e ih = let z : ◌≡◌ {A = ℕ} 0 1 = cc in absurd (omega arith)
+      go true o e ih = cc
       go false None e ih = let r = ih refl in omega arith
-      go false (Some i) e ih = let z : ◌≡◌ {A = ℕ} 0 1 = cc in absurd (omega arith)
+      go false (Some i) e ih = cc
 
   some_serial : (serial : ℕ) (xs : List (Entry K S)) → is_some (place_of (has_serial serial) xs) ≡ true → 1 ≤ total (worker (is_serial serial)) xs
-  some_serial serial [] e = let z : ◌≡◌ {A = ℕ} 0 1 = cc in absurd (omega arith)
+  some_serial serial [] e = cc
   some_serial serial (x ∷ xs) e = go (eqb x.serial serial) (place_of (has_serial serial) xs) e (some_serial serial xs)
     where
       go : (p : Bool) (o : Option ℕ) → is_some (cond p (Some 0) (one_more o)) ≡ true → (is_some o ≡ true → 1 ≤ total (worker (is_serial serial)) xs) → 1 ≤ one_if p + total (worker (is_serial serial)) xs
       go true o e ih = omega arith
-      go false None e ih = let z : ◌≡◌ {A = ℕ} 0 1 = cc in absurd (omega arith)
+      go false None e ih = cc
       go false (Some i) e ih = let r = ih refl in omega arith
 
   -- what telling a worker that a request is over does to the cache

@@ -3,31 +3,23 @@ use Rattle.std.proofs.Common.{◌≡◌, ℕ, ◌+◌, ◌-◌, ◌^◌, ◌<◌
 use Rattle.std.proofs.lemmas.Bool.{ltb-true, not-false}
 use Rattle.model.specs.Outcome.{Outcome}
 use Rattle.model.specs.Sums.{one_if}
-use Rattle.model.specs.Lists.{at}
-use Rattle.model.proofs.Cases.{cond_case, some_case}
+use Rattle.model.proofs.Cases.{cond_case}
 use Rattle.model.proofs.Totals.{total, total_append}
-use Rattle.service.specs.Meaning.{Sameness, Endpoints, refused_by}
+use Rattle.service.specs.Meaning.{Sameness, Endpoints}
 use Rattle.cache_model.specs.declared.error.PushError.{PushError}
-use Rattle.cache_model.specs.declared.error.CallRefusal.{CallRefusal}
 use Rattle.cache_model.specs.Entries.{entry, cancel}
-use Rattle.cache_model.specs.Cache.{Cache, held, taken_in, push, call}
+use Rattle.cache_model.specs.Cache.{Cache, held, taken_in, push}
 use Rattle.cache_model.proofs.Keys.{one_if_le, T_of, of_live, cancel_less, cancel_all}
 use Rattle.cache_model.proofs.Steps.{of_worker, sum_held, Single, cancel_sum}
-
-no_err : {A B : Type 0} {a : A} {b : B} → Err b ≡ Ok a → ⊥
-no_err {A} {B} {a} {b} e = let z : ◌≡◌ {A = ℕ} 0 1 = cc in omega arith
-
-no_ok : {A B : Type 0} {a : A} {b : B} → Ok a ≡ Err b → ⊥
-no_ok {A} {B} {a} {b} e = let z : ◌≡◌ {A = ℕ} 0 1 = cc in omega arith
 
 module _ {K S Q A E W : Type 0} (keys : Sameness K) (ends : Endpoints S Q A E W) where
   pub push_taken : (c : Cache K S) (k : K) (s : S) (serial : ℕ) → (push keys c k s).answer ≡ Ok serial → (serial ≡ c.next) × ((push keys c k s).after ≡ taken_in keys c k s)
   push_taken c k s serial =
       let Goal : Outcome (Result ℕ (PushError K)) (Cache K S) → Type 0 = λ l. l.answer ≡ Ok serial → (serial ≡ c.next) × (l.after ≡ taken_in keys c k s) in
       cond_case Goal (not (ltb (held c) c.capacity)) _ _
-      (λ _ e. absurd (no_err e))
+      (λ _ e. cc)
       (λ _. cond_case Goal (not (ltb c.next (2 ^ 64 - 1))) _ _
-      (λ _ e. absurd (no_err e))
+      (λ _ e. cc)
       (λ _ e. (cc, refl)))
 
   pub pushed_sum : (f : ℕ → ℕ → ℕ) (c : Cache K S) (k : K) (s : S) → sum_held keys ends f (taken_in keys c k s) ≡ sum_held keys ends f c + f c.next (ends.count s)
@@ -58,7 +50,7 @@ module _ {K S Q A E W : Type 0} (keys : Sameness K) (ends : Endpoints S Q A E W)
       (λ _ _. refl)
       (λ _. cond_case Goal (not (ltb c.next (2 ^ 64 - 1))) _ _
       (λ _ _. refl)
-      (λ _ x. absurd (no_ok x)))
+      (λ _ x. cc))
 
   -- either way
   pub push_cases : (c : Cache K S) (k : K) (s : S) → ((push keys c k s).after ≡ c) ⊎ (((push keys c k s).after ≡ taken_in keys c k s) × (held c < c.capacity))
@@ -69,13 +61,3 @@ module _ {K S Q A E W : Type 0} (keys : Sameness K) (ends : Endpoints S Q A E W)
       (λ room. cond_case Goal (not (ltb c.next (2 ^ 64 - 1))) _ _
       (λ _. inl refl)
       (λ _. inr (refl, ltb-true (held c) c.capacity (not-false (ltb (held c) c.capacity) room))))
-
-  -- a refused call changes nothing
-  pub call_refused : (now : ℕ) (c : Cache K S) (i : ℕ) (q : Q) (r : CallRefusal) → (call keys ends now c i q).answer ≡ Err r → (call keys ends now c i q).after ≡ c
-  call_refused now c i q r =
-      let Goal : Outcome (Result A CallRefusal) (Cache K S) → Type 0 = λ l. l.answer ≡ Err r → l.after ≡ c in
-      some_case Goal (at c.ready i) _ _
-      (λ _ _. refl)
-      (λ e _. some_case Goal (refused_by ends e.endpoint) _ _
-      (λ _ x. absurd (no_ok x))
-      (λ _ _ _. refl))

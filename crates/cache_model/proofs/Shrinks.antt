@@ -2,7 +2,7 @@
 use Rattle.model.specs.Outcome.{Outcome}
 use Rattle.model.specs.Options.{by_some}
 use Rattle.model.specs.Lists.{at, swap_remove}
-use Rattle.model.proofs.Cases.{no_some, cond_case, some_case, some_is}
+use Rattle.model.proofs.Cases.{cond_case, some_case, some_is}
 use Rattle.model.proofs.Places.{at_some, swap_length}
 use Rattle.service.specs.Meaning.{Sameness, Endpoints}
 use Rattle.cache_model.specs.declared.entry.Entry.{Entry}
@@ -23,10 +23,10 @@ module _ {K S Q A E W : Type 0} (keys : Sameness K) (ends : Endpoints S Q A E W)
   LostOne fault after before = (x : Failed K E) → fault ≡ Some (pending.Failed x) → after < before
 
   no_fault : {P : Type 0} {x : PendingError K E} → None ≡ Some x → P
-  no_fault {P} {x} e = absurd (no_some e)
+  no_fault {P} {x} e = cc
 
   no_place_not_failed : {P : Type 0} {k : K} {x : Failed K E} → ◌≡◌ {A = Option (PendingError K E)} (Some (pending.NoPlace k)) (Some (pending.Failed x)) → P
-  no_place_not_failed {P} {k} {x} e = let z : ◌≡◌ {A = ℕ} 0 1 = cc in absurd (omega arith)
+  no_place_not_failed {P} {k} {x} e = cc
 
   abbrev PassLost : List (Entry K S) → List (Entry K S) → Passed K S E → Type 0
   PassLost kept todo p = LostOne p.fault (length (p.kept ++ p.rest)) (length kept + length todo)
@@ -56,7 +56,7 @@ module _ {K S Q A E W : Type 0} (keys : Sameness K) (ends : Endpoints S Q A E W)
       omega arith
     where
       fault_is : (o : Option (PendingError K E)) (kept : List (Entry K S)) → by_some o (Ok (emptied kept)) Err ≡ Err (pending.Failed x) → o ≡ Some (pending.Failed x)
-      fault_is None kept e = let z : ◌≡◌ {A = ℕ} 0 1 = cc in absurd (omega arith)
+      fault_is None kept e = cc
       fault_is (Some y) kept e = ap Some (let q : y ≡ pending.Failed x = cc in q)
 
   -- a check at a ready place that is not answered by Ready leaves one less ready
@@ -86,7 +86,7 @@ module _ {K S Q A E W : Type 0} (keys : Sameness K) (ends : Endpoints S Q A E W)
       (λ _. let h = length-append ps (entry e.key e.endpoint e.serial ∷ []) in omega arith)
 
   swap_short : (xs : List (Entry K S)) (i : ℕ) (e : Entry K S) → at xs i ≡ Some e → suc (length (swap_remove xs i)) ≡ length xs
-  swap_short [] i e h = absurd (no_some h)
+  swap_short [] i e h = cc
   swap_short (x ∷ []) zero e h = refl
   swap_short (x ∷ y ∷ ys) zero e h = swap_length (x ∷ y ∷ ys) zero (omega arith)
   swap_short (x ∷ xs) (suc i) e h = ap suc (swap_short xs i e h)

@@ -28,7 +28,7 @@ pub enum PendingError<K, E> {
     Failed(Failed<K, E>),
 }
 
-// Why a request is not passed on, with its number: the endpoint's refusals, and that there is no such worker.
+// Why a request is not passed on, with its number: the endpoint's refusals, and that there is no such worker. (Not with an endpoint's refusal in a case: a case with contents has no discriminant, which is its number here. `From` leads here from those.)
 #[derive(Clone, Copy, PartialEq, Eq, Debug)]
 pub enum CallRefusal {
     NotReady = 3,

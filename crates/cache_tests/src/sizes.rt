@@ -1,5 +1,6 @@
 // Memory of no entry, of one, of uneven lengths, and of more than a cache may hold.
 use cache_model::entry::Entry;
+use cache_model::error::{CallRefusal, PushRefusal};
 use load::pending_requests::PendingRequests;
 use ready_cache::cache::ReadyCache;
 use service::Endpoint;
@@ -15,22 +16,22 @@ fn worker() -> Result<PendingRequests<Patterned>, Fail> {
     Ok(PendingRequests::new(Patterned::new(&[Answer::Ready])?))
 }
 
-// Pushes so many workers, each under a key of its own; answers how many were taken, and the number of the last refusal.
+// Pushes so many workers, each under a key of its own; answers how many were taken, and the last refusal.
 fn push_all(
     cache: &mut ReadyCache<'_, u32, PendingRequests<Patterned>>,
     pushes: u32,
-) -> Result<(u32, Option<u8>), Fail> {
+) -> Result<(u32, Option<PushRefusal>), Fail> {
     let worker = worker()?;
     let outcome = (0..pushes)
         .map(|key| cache.push(key, worker))
         .fold((0u32, None), |(taken, refusal), pushed| match pushed {
             Ok(_) => (taken.saturating_add(1), refusal),
-            Err(error) => (taken, Some(error.number())),
+            Err(error) => (taken, Some(error.refusal)),
         });
     Ok(outcome)
 }
 
-// In memory of these lengths a cache takes `capacity` workers and refuses the next with 1, pending or ready; once one is withdrawn there is a place again.
+// In memory of these lengths a cache takes `capacity` workers and refuses the next as full, pending or ready; once one is withdrawn there is a place again.
 fn holds(
     rt: &impl Abort,
     heap: Global,
@@ -43,15 +44,15 @@ fn holds(
     let mut pending = vec![in heap; blank; pending]?;
     let mut cache = ReadyCache::new(ready.as_mut_slice(), pending.as_mut_slice(), 1);
     assert_eq!(rt; push_all(&mut cache, capacity)?, (capacity, None));
-    assert_eq!(rt; push_all(&mut cache, 1)?, (0, Some(1)));
+    assert_eq!(rt; push_all(&mut cache, 1)?, (0, Some(PushRefusal::Full)));
     assert!(rt; matches!(cache.poll_pending(0), Ok(Poll::Ready(()))));
     assert_eq!(rt; cache.ready_len(), capacity as usize);
-    assert_eq!(rt; push_all(&mut cache, 1)?, (0, Some(1)));
+    assert_eq!(rt; push_all(&mut cache, 1)?, (0, Some(PushRefusal::Full)));
     assert_eq!(rt; cache.evict(&0), capacity > 0);
     let again = if capacity > 0 {
         (1, None)
     } else {
-        (0, Some(1))
+        (0, Some(PushRefusal::Full))
     };
     assert_eq!(rt; push_all(&mut cache, 1)?, again);
     Ok(())
@@ -76,8 +77,7 @@ fn nothing_in_an_empty_cache(rt: HostRuntime) {
     assert!(rt; cache.load_ready_index(0, 0).is_none());
     assert!(rt; !cache.finish(1, 0, 0));
     assert!(rt; cache.is_empty());
-    let called = cache.call_ready_index(0, 0, 0);
-    assert_eq!(rt; called.map_err(|refusal| refusal.number()), Err(3));
+    assert_eq!(rt; cache.call_ready_index(0, 0, 0), Err(CallRefusal::NotReady));
 }
 
 #[test]

@@ -127,6 +127,7 @@ fn feed_of<'a, S: Copy>(
     }
 }
 
+// (Not a `Router` of the crate `runs`: what is timed is the three calls alone.)
 // One cycle: a poll, a call, and the completion of the ticket that was given `late` calls before. Answers the serial that was named and the response, added up, or none where nobody was named or the request was refused.
 fn cycle<D, R>(
     balance: &mut Balance<D, R>,

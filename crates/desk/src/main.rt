@@ -35,7 +35,7 @@ fn print_lists(rt: &HostRuntime, quotes: &[Ticket], revaluation: &[Ticket]) -> a
     println!(rt; "")?;
     println!(rt; "quotes, by requests out          | revaluation, by response time")?;
     println!(rt; "tkt sent at worker answered end  | tkt sent at worker answered end")?;
-    // by place, since a zip ends with the shorter list
+    // by place, since a zip ends with the shorter list; one that does not is of another library, for this loop alone
     for i in 0..quotes.len().max(revaluation.len()) {
         let left = Side(quotes.get(i));
         let right = Side(revaluation.get(i));

@@ -22,7 +22,7 @@ use std::convert::Infallible;
 use std::iter::repeat_n;
 use workers::paced::Paced;
 
-// A key, or the fault that its text is no name.
+// A key, or the fault that its text is no name. (Here and below a program says in its own words which value was not made: `Invalid` says the kind of value alone.)
 fn name(text: &str) -> anyhow::Result<Name> {
     Name::new(text.as_bytes()).ok().context("not a name")
 }
@@ -96,7 +96,7 @@ where
     Ok(tickets(heap, picks, ran.answers.as_slice())?)
 }
 
-// Quotes, weighed by requests out.
+// Quotes, weighed by requests out. (The two routers differ in their feeds and workers; what they share is `tickets_of`.)
 pub fn quotes(heap: Global, picks: &[Pick<u64>]) -> anyhow::Result<Vec<Ticket>> {
     let worker = PendingRequests::new(Paced::new());
     let answers = feed(heap, worker)?;

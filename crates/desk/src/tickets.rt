@@ -39,7 +39,7 @@ fn close(tickets: &mut [Ticket], number: u64, found: Completion) {
     }
 }
 
-// All tickets in the order in which they were given.
+// All tickets in the order in which they were given. (Picks and answers are two lists: the first is what a run is handed, and the second what it gives back.)
 pub fn tickets<K: Copy, F: Copy>(
     heap: Global,
     picks: &[Pick<u64>],
@@ -50,6 +50,7 @@ pub fn tickets<K: Copy, F: Copy>(
     for (pick, answer) in picks.iter().zip(answers) {
         match (*pick, *answer, named) {
             (_, Answer::Polled(Ok(polled)), _) => {
+                // a `Poll` is no Option
                 named = match polled.worker {
                     Poll::Ready(serial) => Some(serial),
                     Poll::Pending => None,

@@ -68,7 +68,7 @@ pub const ADDED: [&str; 2] = ["lon3", "sin1"];
 // How many workers there are in a week, which is the last serial.
 pub const SERIALS: u64 = 10;
 
-// The name of the worker with a serial: serials are given in the order of the feed, from 1.
+// The name of the worker with a serial: serials are given in the order of the feed, from 1. (What is printed, so a serial that nobody has gets a word too. Ten names are looked through by `find`: a map would be made for one page.)
 pub fn worker(serial: u64) -> &'static str {
     (1u64..)
         .zip(WORKERS.into_iter().chain(ADDED))

@@ -37,7 +37,7 @@ impl<K: Key, S: Copy, F: Copy> Discover for ListFeed<'_, K, S, F> {
 }
 
 impl<K: Copy, S: Copy, F: Copy> Discovered<K, S, F> {
-    // The number of a fault; the other answers have none.
+    // The number of a fault; the other answers have none, so it is no conversion.
     pub fn number(&self) -> Option<u8>
         ensures { result ≡ discovered_number self.now }
     {

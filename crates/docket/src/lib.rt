@@ -1,7 +1,7 @@
 // The docket over a lent slice of records (tower: load/completion, whose handles become tickets here).
 #![tactic(auto)]
 
-ghost use Rattle.std.specs.Prelude.{◌≡◌, ℕ, length, Ok, Err, ◌==◌};
+ghost use Rattle.std.specs.Prelude.{◌≡◌, ◌<◌, length, Ok, Err, IfSome, ◌==◌};
 ghost use Rattle.std.specs.Slice.Iter.{iter_rest};
 ghost use Rattle.model.specs.Options.{by_some};
 ghost use Rattle.model.specs.Lists.{at as item_at};
@@ -71,9 +71,13 @@ impl<'a> Docket<'a> {
 
     // The place of the ticket's record.
     pub fn position(&self, ticket: u64) -> Option<usize>
-        ensures { result ≡ ticket_place self.now ticket }
+        ensures answer { result ≡ ticket_place self.now ticket }
+        ensures within { IfSome result (λ i. i < length self.now.records) }
     {
-        self.iter().position(|record| record.ticket == ticket)
+        lists::position(
+            &self.records[..self.count],
+            |record| record.ticket == ticket,
+        )
     }
 
     // Whether a request can be noted, and if not, why.

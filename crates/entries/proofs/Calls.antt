@@ -1,5 +1,5 @@
 -- What the answer of an endpoint's call tells of the endpoint.
-use Rattle.std.proofs.Common.{◌≡◌, ℕ, Some, None, Ok, Err, Option, Result, refl, arith}
+use Rattle.std.proofs.Common.{◌≡◌, Some, None, Ok, Err, Option, Result, refl}
 use Rattle.model.specs.Outcome.{Outcome, outcome}
 use Rattle.model.specs.Options.{by_some}
 use Rattle.service.specs.declared.refusal.EndpointRefusal.{EndpointRefusal}
@@ -14,7 +14,7 @@ module _ {A S : Type 0} where
     pub left : (called o a s t).after ≡ s
 
   pub refused : (o : Option EndpointRefusal) (a : A) (s t : S) (x : EndpointRefusal) → Err x ≡ (called o a s t).answer → Refused o a s t x
-  refused None a s t x e = let z : ◌≡◌ {A = ℕ} 0 1 = cc in absurd (omega arith)
+  refused None a s t x e = cc
   refused (Some y) a s t x e = record { why = cc; left = refl }
 
   pub record Accepted (o : Option EndpointRefusal) (a : A) (s t : S) (b : A) : Type 0 where
@@ -24,4 +24,4 @@ module _ {A S : Type 0} where
 
   pub accepted : (o : Option EndpointRefusal) (a : A) (s t : S) (b : A) → Ok b ≡ (called o a s t).answer → Accepted o a s t b
   accepted None a s t b e = record { why = refl; said = cc; left = refl }
-  accepted (Some y) a s t b e = let z : ◌≡◌ {A = ℕ} 0 1 = cc in absurd (omega arith)
+  accepted (Some y) a s t b e = cc

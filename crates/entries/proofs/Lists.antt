@@ -1,7 +1,8 @@
 -- What is found in a list of entries, and what a write at that place leaves.
-use Rattle.std.proofs.Common.{◌≡◌, ℕ, Bool, true, false, cond, ◌||◌, List, [], ◌∷◌, get_or, set, is_some, Some, None, Option, sym, refl, ap}
+use Rattle.std.proofs.Common.{◌≡◌, ℕ, Bool, true, false, cond, ◌||◌, List, [], ◌∷◌, get_or, set, is_some, Some, None, Option, sym, refl, ap, ◌∙◌}
+use Rattle.std.proofs.lemmas.List.{append-nil}
 use Rattle.model.specs.Lists.{place_of, one_more}
-use Rattle.lists.proofs.Places.{change_first, found}
+use Rattle.lists.proofs.Places.{change_first, found, not_found}
 use Rattle.service.specs.Meaning.{Sameness, Endpoints}
 use Rattle.cache_model.specs.declared.entry.Entry.{Entry}
 use Rattle.cache_model.specs.Entries.{cancelled, holding, has_serial, has_key, live_of, any_live, cancel, promote}
@@ -10,6 +11,10 @@ use Rattle.cache_model.specs.Cache.{finish_in}
 -- the item that was found is changed in place
 pub changed_at : {A : Type 0} (p : A → Bool) (f : A → A) (end xs : List A) (i : ℕ) (d : A) → Some i ≡ place_of p xs → set xs i (f (get_or xs i d)) ≡ change_first p f end xs
 changed_at p f end xs i d e = sym ((found p f end xs i (sym e)).changed d)
+
+-- none was found, so nothing changes
+pub unchanged : {A : Type 0} (p : A → Bool) (f : A → A) (xs : List A) → None ≡ place_of p xs → xs ≡ change_first p f [] xs
+unchanged p f xs e = sym (not_found p f [] xs (sym e) ∙ append-nil xs)
 
 module _ {K S : Type 0} where
   module _ (keys : Sameness K) where

@@ -1,4 +1,4 @@
-// What a cache does with one of its lists. (Entries are reached by index: after a slice's `get_mut` a proof knows the slice's length alone. What each function does with its entry differs, and is what its contract says.)
+// What a cache does with one of its lists. (Entries are reached by index: after a slice's `get_mut` a proof knows the slice's length alone. Each looks for its entry by itself: what it does with it then differs, and is what its contract says.)
 #![tactic(auto)]
 
 ghost use Rattle.std.specs.Prelude.{◌≡◌, ℕ, false, is_some, Some, None, Ok, Err, slice_set};

@@ -1,4 +1,4 @@
-// Where an entry stands in a list. (Each test is a function, so that it has a contract of its own.)
+// Where an entry stands in a list. (Each test is a function, so that it has a contract of its own, and each search is one expression over its test. That a place is within the list stands at each: from the answer alone it follows by a lemma.)
 ghost use Rattle.std.specs.Prelude.{◌≡◌, ◌<◌, length, IfSome};
 ghost use Rattle.model.specs.Lists.{place_of};
 ghost use Rattle.cache_model.specs.Entries.{has_key, live_of, has_serial, ready_place};
@@ -32,7 +32,7 @@ pub fn of_key<K: Key, S: Copy>(items: &[Entry<K, S>], key: &K) -> Option<usize>
     ensures answer { result ≡ ready_place K.sameness key.now items.now }
     ensures within { IfSome result (λ i. i < length items.now) }
 {
-    items.iter().position(|entry| has_key(entry, key))
+    lists::position(items, |entry| has_key(entry, key))
 }
 
 // The place of the first entry of the key that is not cancelled.
@@ -40,7 +40,7 @@ pub fn live_of<K: Key, S: Copy>(items: &[Entry<K, S>], key: &K) -> Option<usize>
     ensures answer { result ≡ place_of (live_of K.sameness key.now) items.now }
     ensures within { IfSome result (λ i. i < length items.now) }
 {
-    items.iter().position(|entry| is_live(entry, key))
+    lists::position(items, |entry| is_live(entry, key))
 }
 
 // The place of the first entry with the serial.
@@ -48,5 +48,5 @@ pub fn with_serial<K: Copy, S: Copy>(items: &[Entry<K, S>], serial: u64) -> Opti
     ensures answer { result ≡ place_of (has_serial serial) items.now }
     ensures within { IfSome result (λ i. i < length items.now) }
 {
-    items.iter().position(|entry| has_serial(entry, serial))
+    lists::position(items, |entry| has_serial(entry, serial))
 }

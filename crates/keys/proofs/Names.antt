@@ -80,7 +80,7 @@ name_made text m e = go (is_name text) refl e
   where
     go : (t : Bool) → is_name text ≡ t → cond t (Ok (name_of text)) (Err invalid.Name) ≡ Ok m → (letters_or_digits text ≡ true) × (m ≡ name_of text)
     go true i k = ((name_parts text i).1, cc)
-    go false i k = let z : ◌≡◌ {A = ℕ} 0 1 = cc in absurd (omega arith)
+    go false i k = cc
 
 pub same_without_case : (text : List ℕ) → letters_or_digits text ≡ true → SameWithoutCase text (name_of text)
 same_without_case text h other m e =

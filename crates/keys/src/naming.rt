@@ -56,6 +56,7 @@ impl Name {
     }
 }
 
+// A relation of its own, and not `Eq`: names that differ in case alone are one key.
 impl Key for Name {
     ghost sameness = { names };
 
@@ -64,7 +65,7 @@ impl Key for Name {
     }
 }
 
-// Writes the bytes that are packed in a number.
+// Writes the bytes that are packed in a number. (Of the eight bytes that `to_be_bytes` gives, those before the first letter would have to be left out.)
 fn write_letters<W: fmt::Write>(letters: u64, f: &mut fmt::Formatter<W>) -> fmt::Result
     ensures { WritesOnOk W.Write.write_str_gives f.old result (shown letters) f.new }
 {

@@ -1,31 +1,14 @@
--- Places in the front of a list: what is read, found, written and taken away there.
-use Rattle.std.proofs.Common.{◌≡◌, ℕ, zero, suc, ◌-◌, ◌<◌, ◌≤◌, Bool, true, false, cond, List, [], ◌∷◌, ◌++◌, length, get_or, take, drop, set, Some, None, Option, sym, refl, ap, ◌∙◌, ap₂, arith, MatchOption}
-use Rattle.std.proofs.lemmas.List.{get_or_default, take-set-le, take-append-drop}
+-- Places in the front of a list: what is found, written and taken away there.
+use Rattle.std.proofs.Common.{◌≡◌, ℕ, zero, suc, ◌+◌, ◌-◌, ◌<◌, ◌≤◌, Bool, true, false, cond, List, [], ◌∷◌, ◌++◌, length, get_or, take, drop, set, Some, None, Option, sym, refl, ap, ◌∙◌, ap₂, arith, MatchOption}
+use Rattle.std.proofs.lemmas.List.{take_all, take-set-le, take-append-drop}
 use Rattle.std.specs.List.{swap}
 use Rattle.std.proofs.lemmas.Option.{MatchOption-at_some, MatchOption-at_none}
+use Rattle.std.specs.List.{position_from}
+use Rattle.model.proofs.Std.{place_from_start}
 use Rattle.model.specs.Lists.{one_more, place_of, at, last, front, swap_remove}
 
 module _ {A : Type 0} where
-  -- ---- reading
-
-  pub at_front : (xs : List A) (n i : ℕ) (x : A) → i < n → i < length xs → x ≡ get_or xs i x → at (take n xs) i ≡ Some x
-  at_front xs zero i x h l e = absurd (omega arith)
-  at_front [] (suc n) i x h l e = absurd (omega arith)
-  at_front (y ∷ ys) (suc n) zero x h l e = ap Some (sym e)
-  at_front (y ∷ ys) (suc n) (suc i) x h l e = at_front ys n i x (omega arith) (omega arith) e
-
-  pub at_set : (xs : List A) (i : ℕ) (x v : A) → at xs i ≡ Some x → at (set xs i v) i ≡ Some v
-  at_set [] i x v e = let z : ◌≡◌ {A = ℕ} 0 1 = cc in absurd (omega arith)
-  at_set (y ∷ ys) zero x v e = refl
-  at_set (y ∷ ys) (suc i) x v e = at_set ys i x v e
-
   -- ---- writing
-
-  pub take_set_in : (xs : List A) (n i : ℕ) (v : A) → take n (set xs i v) ≡ set (take n xs) i v
-  take_set_in xs zero i v = refl
-  take_set_in [] (suc n) i v = refl
-  take_set_in (x ∷ xs) (suc n) zero v = refl
-  take_set_in (x ∷ xs) (suc n) (suc i) v = ap (λ ys. x ∷ ys) (take_set_in xs n i v)
 
   -- the front of a list was written as it was
   pub put_back : (xs zs : List A) (n : ℕ) → zs ≡ take n xs → zs ++ drop n xs ≡ xs
@@ -67,12 +50,35 @@ module _ {A : Type 0} where
 
   pub swap_remove_none : (xs : List A) (i : ℕ) → at xs i ≡ None → swap_remove xs i ≡ xs
   swap_remove_none [] i h = refl
-  swap_remove_none (x ∷ xs) zero h = let z : ◌≡◌ {A = ℕ} 0 1 = cc in absurd (omega arith)
+  swap_remove_none (x ∷ xs) zero h = cc
   swap_remove_none (x ∷ xs) (suc i) h = ap (λ ys. x ∷ ys) (swap_remove_none xs i h)
 
   -- ---- finding
 
   module _ (p : A → Bool) where
+    past_one : (y : A) (ys : List A) (k : ℕ) → p y ≡ false → position_from p k (y ∷ ys) ≡ position_from p (k + 1) ys
+    past_one y ys k e = ap (λ b. cond b (Some k) (position_from p (k + 1) ys)) e
+
+    -- ys is what is left of xs, and its first four do not pass
+    pub past_four : (xs ys : List A) (a b c d : A) → 4 ≤ length ys → length ys ≤ length xs → a ≡ get_or ys 0 a → b ≡ get_or ys 1 b → c ≡ get_or ys 2 c → d ≡ get_or ys 3 d → p a ≡ false → p b ≡ false → p c ≡ false → p d ≡ false → position_from p (length xs - length ys) ys ≡ position_from p (length xs - length (take (length ys - 4) (drop 4 ys))) (take (length ys - 4) (drop 4 ys))
+    past_four xs [] a b c d l w ra rb rc rd fa fb fc fd = absurd (omega (arith, l))
+    past_four xs (_ ∷ []) a b c d l w ra rb rc rd fa fb fc fd = absurd (omega (arith, l))
+    past_four xs (_ ∷ _ ∷ []) a b c d l w ra rb rc rd fa fb fc fd = absurd (omega (arith, l))
+    past_four xs (_ ∷ _ ∷ _ ∷ []) a b c d l w ra rb rc rd fa fb fc fd = absurd (omega (arith, l))
+    past_four xs (s ∷ t ∷ u ∷ v ∷ ys) a b c d l w ra rb rc rd fa fb fc fd =
+        let k = length xs - length (s ∷ t ∷ u ∷ v ∷ ys) in
+        let whole : take (length (s ∷ t ∷ u ∷ v ∷ ys) - 4) ys ≡ ys = take_all _ ys (omega arith) in
+        let next : k + 1 + 1 + 1 + 1 ≡ length xs - length ys = omega (arith, w) in
+        past_one s (t ∷ u ∷ v ∷ ys) k (ap p (sym ra) ∙ fa)
+        ∙ past_one t (u ∷ v ∷ ys) (k + 1) (ap p (sym rb) ∙ fb)
+        ∙ past_one u (v ∷ ys) (k + 1 + 1) (ap p (sym rc) ∙ fc)
+        ∙ past_one v ys (k + 1 + 1 + 1) (ap p (sym rd) ∙ fd)
+        ∙ ap (λ n. position_from p n ys) next
+        ∙ ap (λ zs. position_from p (length xs - length zs) zs) (sym whole)
+
+    pub all_is_left : (xs : List A) → place_of p xs ≡ position_from p (length xs - length xs) xs
+    all_is_left xs = let e : length xs - length xs ≡ 0 = omega arith in place_from_start p xs ∙ ap (λ k. position_from p k xs) (sym e)
+
     -- the first that passes is changed by f; where none does, `end` follows
     abbrev pub change_first : (A → A) → List A → List A → List A
     change_first f end [] = end

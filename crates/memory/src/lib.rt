@@ -22,7 +22,7 @@ pub struct Memory<K, S> {
 fn filled<T: Copy>(heap: Global, value: T, count: usize) -> Result<Vec<T>, AllocError>
     ensures { IfOk result (λ v. v.items ≡ replicate count value) }
 {
-    // not `vec!`, which promises clones of a value whose type is a parameter, and not the value itself
+    // neither `vec!` nor `repeat_n`: of a value whose type is a parameter they promise clones, and not the value itself
     let mut memory = Vec::new(heap);
     for _i in 0..count {
         memory.push(value)?;

@@ -1,9 +1,10 @@
 -- The steps of a pass that moves what stays to the front of the same list.
 use Rattle.std.proofs.Common.{◌≡◌, ℕ, ◌+◌, ◌<◌, ◌≤◌, Bool, true, false, cond, List, [], ◌∷◌, ◌++◌, length, get_or, take, drop, set, Some, None, Ok, Err, Option, Result, sym, refl, ap, ◌∙◌, subst, arith}
-use Rattle.std.proofs.lemmas.List.{length-set, drop_more, drop-set-lt, drop_all, take-set-le, take_more_set, get_or-set_same}
+use Rattle.std.proofs.lemmas.List.{get_or_default, length-set, drop_more, drop-set-lt, take-set-le, take_more_set, get_or-set_same}
 use Rattle.std.proofs.lemmas.Bool.{cond-true, cond-false}
 use Rattle.model.specs.Options.{by_some}
 use Rattle.model.specs.Lists.{at}
+use Rattle.model.proofs.Lists.{at_getD}
 use Rattle.service.specs.Meaning.{Sameness, Endpoints}
 use Rattle.service.specs.declared.readiness.Readiness.{Readiness}
 use Rattle.service.specs.declared.readiness.Readiness.TheVariants.{Ready, Pending, Failed}
@@ -25,7 +26,14 @@ drop_here xs i x l e = drop_more xs i x l ∙ ap (λ y. y ∷ drop (i + 1) xs) (
 
 -- ---- one turn
 
-module _ {K S Q A E W : Type 0} (ends : Endpoints S Q A E W) (now : ℕ) (xs : List (Entry K S)) (p : Places) (e : Entry K S) (there : e ≡ get_or xs p.read e) where
+module _ {K S Q A E W : Type 0} (ends : Endpoints S Q A E W) (now : ℕ) (xs : List (Entry K S)) (p : Places) (d : Entry K S) (long : p.read < length xs) where
+  -- the entry that was read
+  abbrev e : Entry K S
+  e = get_or xs p.read d
+
+  there : e ≡ get_or xs p.read e
+  there = get_or_default xs p.read d e long
+
   abbrev answers : Readiness E → Entry K S → Result (Option (Entry K S)) (Failure K E)
   answers a f = by_readiness a (Ok (Some f)) (Ok None) (λ x. Err (record { key = e.key; error = x }))
 
@@ -55,10 +63,13 @@ module _ {K S Q A E W : Type 0} (ends : Endpoints S Q A E W) (now : ℕ) (xs : L
           places = sym (cond-false e.cancelled _ _ live ∙ eq);
         }
 
-    -- in memory ys after the question, where f was read
-    module _ (ys : List (Entry K S)) (f : Entry K S) (here : at xs p.read ≡ Some e) (long : p.read < length xs) (left : ys ≡ by_some (at xs p.read) xs (λ z. set xs p.read (holding z (ends.polled z.endpoint now).after))) where
+    -- in memory ys after the question
+    module _ {ys : List (Entry K S)} (left : ys ≡ by_some (at xs p.read) xs (λ z. set xs p.read (holding z (ends.polled z.endpoint now).after))) where
       abbrev said : Result Bool (Failure K E)
       said = by_some (at xs p.read) (Ok false) (λ z. told z (ends.polled z.endpoint now).answer)
+
+      here : at xs p.read ≡ Some e
+      here = at_getD xs p.read d long
 
       heard : said ≡ told e answer
       heard = ap (λ o. by_some o (Ok false) (λ z. told z (ends.polled z.endpoint now).answer)) here
@@ -66,33 +77,33 @@ module _ {K S Q A E W : Type 0} (ends : Endpoints S Q A E W) (now : ℕ) (xs : L
       left_as : ys ≡ set xs p.read asked
       left_as = left ∙ ap (λ o. by_some o xs (λ z. set xs p.read (holding z (ends.polled z.endpoint now).after))) here
 
-      read_as : f ≡ get_or ys p.read f → f ≡ asked
-      read_as r = r ∙ ap (λ z. get_or z p.read f) left_as ∙ get_or-set_same xs p.read asked f long
+      read_as : {f : Entry K S} → f ≡ get_or ys p.read f → f ≡ asked
+      read_as {f} r = r ∙ ap (λ z. get_or z p.read f) left_as ∙ get_or-set_same xs p.read asked f long
 
-      pub turned_ready : f ≡ get_or ys p.read f → Ok true ≡ said → Turned ends now xs p (Ok (Some f)) ys p
-      turned_ready r h =
+      pub turned_ready : {f : Entry K S} → f ≡ get_or ys p.read f → Ok true ≡ said → Turned ends now xs p (Ok (Some f)) ys p
+      turned_ready {f} r h =
           let k = h ∙ heard in
           turned (Ok (Some f)) ys p (pick_ready e answer _ _ _ k ∙ ap (λ z. Ok (Some z)) (sym (read_as r))) (pick_ready e answer _ _ _ k ∙ sym left_as) (pick_ready e answer _ _ _ k)
 
       -- what was read is moved down
-      pub turned_pending : (zs : List (Entry K S)) → ((x : Entry K S) → x ≡ get_or ys p.read x → zs ≡ set ys p.write x) → Ok false ≡ said → Turned ends now xs p (Ok None) zs (kept p)
-      turned_pending zs moved h =
+      pub turned_pending : {zs : List (Entry K S)} → ((x : Entry K S) → x ≡ get_or ys p.read x → zs ≡ set ys p.write x) → Ok false ≡ said → Turned ends now xs p (Ok None) zs (kept p)
+      turned_pending {zs} moved h =
           let k = h ∙ heard in
           let read : asked ≡ get_or ys p.read asked = sym (ap (λ z. get_or z p.read asked) left_as ∙ get_or-set_same xs p.read asked asked long) in
           turned (Ok None) zs (kept p) (pick_pending e answer _ _ _ k) (pick_pending e answer _ _ _ k ∙ ap (λ z. set z p.write asked) (sym left_as) ∙ sym (moved asked read)) (pick_pending e answer _ _ _ k)
 
-      pub turned_failed : (x : Failure K E) → Err x ≡ said → Turned ends now xs p (Err x) ys (over p)
-      turned_failed x h =
+      pub turned_failed : {x : Failure K E} → Err x ≡ said → Turned ends now xs p (Err x) ys (over p)
+      turned_failed {x} h =
           let k = h ∙ heard in
           turned (Err x) ys (over p) (failed_as answer k) (pick_failed e answer _ _ _ x k ∙ sym left_as) (pick_failed e answer _ _ _ x k)
         where
           failed_as : (a : Readiness E) → Err x ≡ told e a → answers a asked ≡ Err x
-          failed_as Ready h = let z : ◌≡◌ {A = ℕ} 0 1 = cc in absurd (omega arith)
-          failed_as Pending h = let z : ◌≡◌ {A = ℕ} 0 1 = cc in absurd (omega arith)
+          failed_as Ready h = cc
+          failed_as Pending h = cc
           failed_as (Failed y) h = let s : ◌≡◌ {A = Failure K E} (record { key = e.key; error = y }) x = cc in ap Err s
 
-pub turned_as : {K S Q A E W : Type 0} (ends : Endpoints S Q A E W) (now : ℕ) (xs ys : List (Entry K S)) (p q : Places) (o o' : Option (Entry K S)) → o ≡ o' → Turned ends now xs p (Ok o) ys q → Turned ends now xs p (Ok o') ys q
-turned_as ends now xs ys p q o o' h d = subst (λ z. Turned ends now xs p (Ok z) ys q) h d
+pub turned_as : {K S Q A E W : Type 0} (ends : Endpoints S Q A E W) (now : ℕ) {xs ys : List (Entry K S)} {p q : Places} {o o' : Option (Entry K S)} → o ≡ o' → Turned ends now xs p (Ok o) ys q → Turned ends now xs p (Ok o') ys q
+turned_as ends now {xs} {ys} {p} {q} h d = subst (λ z. Turned ends now xs p (Ok z) ys q) h d
 
 -- where a turn leaves the places
 abbrev pub Placed : {K S E : Type 0} → Places → Places → Result (Option (Entry K S)) (Failure K E) → Type 0
@@ -181,11 +192,11 @@ module _ {K S Q A E W : Type 0} (keys : Sameness K) (ends : Endpoints S Q A E W)
 
   -- ---- the pass
 
-  pub ends_as : (xs ys xs' ys' : List (Entry K S)) (p q : Places) (r r' : Result (Unit {0}) (PendingError K E)) → r ≡ r' → Ends keys ends now xs ys xs' ys' p q r → Ends keys ends now xs ys xs' ys' p q r'
-  ends_as xs ys xs' ys' p q r r' h d = subst (λ z. Ends keys ends now xs ys xs' ys' p q z) h d
+  pub ends_as : {xs ys xs' ys' : List (Entry K S)} {p q : Places} {r r' : Result (Unit {0}) (PendingError K E)} → r ≡ r' → Ends keys ends now xs ys xs' ys' p q r → Ends keys ends now xs ys xs' ys' p q r'
+  ends_as {xs} {ys} {xs'} {ys'} {p} {q} h d = subst (λ z. Ends keys ends now xs ys xs' ys' p q z) h d
 
-  module _ (xs ys xs' ys' : List (Entry K S)) (p₀ p : Places) (now_at : Went keys ends now xs ys xs' ys' p₀ p) (same : left_of keys ends now xs' ys' p ≡ left_of keys ends now xs ys p₀) where
-    module _ (more : p.read < length ys) (zs : List (Entry K S)) (q : Places) (as_long : length zs ≡ length ys') where
+  module _ {xs ys xs' ys' : List (Entry K S)} {p₀ p : Places} (now_at : Went keys ends now xs ys xs' ys' p₀ p) (same : left_of keys ends now xs' ys' p ≡ left_of keys ends now xs ys p₀) where
+    module _ (more : p.read < length ys) {zs : List (Entry K S)} {q : Places} (as_long : length zs ≡ length ys') where
       goes : (r : Result (Option (Entry K S)) (Failure K E)) → Turned ends now ys' p r zs q → goes_on xs' zs q r ≡ left_of keys ends now xs ys p₀
       goes r d = sym (turn_left xs' ys' zs p q r now_at.behind (omega (arith, now_at.pending_long)) d) ∙ same
 
@@ -206,8 +217,8 @@ module _ {K S Q A E W : Type 0} (keys : Sameness K) (ends : Endpoints S Q A E W)
           )
 
       -- it failed
-      pub step_failed : (f : Failure K E) → Turned ends now ys' p (Err f) zs q → Ends keys ends now xs ys xs' zs p₀ q (Err (error.Failed f))
-      step_failed f d =
+      pub step_failed : {f : Failure K E} → Turned ends now ys' p (Err f) zs q → Ends keys ends now xs ys xs' zs p₀ q (Err (error.Failed f))
+      step_failed {f} d =
           let at : q ≡ over p = placed ends now ys' zs p q (Err f) d in
           let a : q.ready ≡ p.ready = ap (λ z. z.ready) at in
           let b : q.read ≡ p.read + 1 = ap (λ z. z.read) at in
@@ -221,17 +232,17 @@ module _ {K S Q A E W : Type 0} (keys : Sameness K) (ends : Endpoints S Q A E W)
               ready_long = now_at.ready_long;
               pending_long = as_long ∙ now_at.pending_long;
             };
-            done = λ h. let z : ◌≡◌ {A = ℕ} 0 1 = cc in absurd (omega arith);
+            done = λ h. cc;
             same = sym (goes (Err f) d);
           }
 
-      module _ (e : Entry K S) (d : Turned ends now ys' p (Ok (Some e)) zs q) (ws : List (Entry K S)) (as_wide : length ws ≡ length xs') where
+      module _ {e : Entry K S} (d : Turned ends now ys' p (Ok (Some e)) zs q) where
         same_places : q ≡ p
         same_places = placed ends now ys' zs p q (Ok (Some e)) d
 
         -- it joined the ready ones
-        pub step_ready : (n : ℕ) → Promoted keys e xs' q.ready ws n → let next : Places = record { ready = n; read = q.read + 1; write = q.write } in Went keys ends now xs ys ws zs p₀ next × (left_of keys ends now ws zs next ≡ left_of keys ends now xs ys p₀) × (q.read ≡ p.read)
-        step_ready n t =
+        pub step_ready : {ws : List (Entry K S)} {n : ℕ} → length ws ≡ length xs' → Promoted keys e xs' q.ready ws n → let next : Places = record { ready = n; read = q.read + 1; write = q.write } in Went keys ends now xs ys ws zs p₀ next × (left_of keys ends now ws zs next ≡ left_of keys ends now xs ys p₀) × (q.read ≡ p.read)
+        step_ready {ws} {n} as_wide t =
             let a : q.ready ≡ p.ready = ap (λ z. z.ready) same_places in
             let b : q.read ≡ p.read = ap (λ z. z.read) same_places in
             let c : q.write ≡ p.write = ap (λ z. z.write) same_places in
@@ -252,8 +263,8 @@ module _ {K S Q A E W : Type 0} (keys : Sameness K) (ends : Endpoints S Q A E W)
             )
 
         -- it had no place among them
-        pub step_refused : (x : PendingError K E) → Refused keys e xs' q.ready ws x → Ends keys ends now xs ys ws zs p₀ q (Err x)
-        step_refused x t =
+        pub step_refused : {ws : List (Entry K S)} {x : PendingError K E} → length ws ≡ length xs' → Refused keys e xs' q.ready ws x → Ends keys ends now xs ys ws zs p₀ q (Err x)
+        step_refused {ws} {x} as_wide t =
             let a : q.ready ≡ p.ready = ap (λ z. z.ready) same_places in
             let b : q.read ≡ p.read = ap (λ z. z.read) same_places in
             let c : q.write ≡ p.write = ap (λ z. z.write) same_places in
@@ -266,7 +277,7 @@ module _ {K S Q A E W : Type 0} (keys : Sameness K) (ends : Endpoints S Q A E W)
                 ready_long = as_wide ∙ now_at.ready_long;
                 pending_long = as_long ∙ now_at.pending_long;
               };
-              done = λ h. let z : ◌≡◌ {A = ℕ} 0 1 = cc in absurd (omega arith);
+              done = λ h. cc;
               same =
                   sym (goes (Ok (Some e)) d)
                   ∙ cond-false (has_place keys (length xs') (take q.ready xs') e.key) _ _ t.place

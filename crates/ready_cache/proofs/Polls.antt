@@ -13,7 +13,9 @@ use Rattle.cache_model.specs.declared.error.PendingError.{PendingError}
 use Rattle.cache_model.specs.Cache.{Cache, capacity_of, emptied, pass, poll_pending}
 use Rattle.ready_cache.specs.declared.places.Places.{Places}
 use Rattle.ready_cache.specs.Passing.{Ended, ended, fault_of, Ends}
-use Rattle.ready_cache.proofs.Views.{seen}
+use Rattle.ready_cache.specs.declared.cache.ReadyCache.TheInside.{Inside}
+use Rattle.ready_cache.proofs.Views.{seen, shown, Fits}
+use Rattle.ready_cache.proofs.Passes.{ends_as}
 
 pub emptied_none : {A : Type 0} (xs : List A) (n : ℕ) → n ≡ 0 → emptied (take n xs) ≡ poll.Ready tt
 emptied_none xs zero h = refl
@@ -56,20 +58,40 @@ module _ {K S Q A E W : Type 0} (keys : Sameness K) (ends : Endpoints S Q A E W)
   abbrev after_of : ℕ → ℕ → Ended K S E → Cache K S
   after_of next capacity p = record { ready = p.ready; pending = p.kept ++ p.rest; next = next; resume = by_some p.fault 0 (λ _. length p.kept); capacity = capacity }
 
-  -- in memory xs and ys, where r are ready and n pending, a pass from `from` on came to the places q and left xs' and ys' of the two lists
-  module _ (xs ys xs' ys' : List (Entry K S)) (r n next resume from capacity : ℕ) (q : Places) (res : Result (Unit {0}) (PendingError K E))
-      (bound : capacity ≡ capacity_of (length xs) (length ys))
-      (fits : r + n ≤ capacity_of (length xs) (length ys))
-      (begins : from ≡ min resume n)
-      (over : Ends keys ends now (take capacity xs) (take n ys) xs' ys' (start r from) q res) where
-    abbrev v : Cache K S
-    v = seen xs ys r n next resume
+  -- in the memory f of the cache v, a pass from `from` on came to the places q, answered `out` and left xs' and ys' of the two lists
+  module _ (f : Inside K S) {v : Cache K S} {from capacity : ℕ} {xs' ys' : List (Entry K S)} {q : Places} {out res : Result (Unit {0}) (PendingError K E)}
+      (shows : shown f ≡ v)
+      (fits : Fits f)
+      (bound : capacity ≡ v.capacity)
+      (begins : from ≡ min f.resume f.pending_count)
+      (was : out ≡ res)
+      (ends_so : Ends keys ends now (take capacity f.ready.now) (take f.pending_count f.pending.now) xs' ys' (start f.ready_count from) q out) where
+    abbrev xs : List (Entry K S)
+    xs = f.ready.now
+
+    abbrev ys : List (Entry K S)
+    ys = f.pending.now
+
+    abbrev r : ℕ
+    r = f.ready_count
+
+    abbrev n : ℕ
+    n = f.pending_count
+
+    abbrev resume : ℕ
+    resume = f.resume
+
+    over : Ends keys ends now (take capacity xs) (take n ys) xs' ys' (start r from) q res
+    over = ends_as keys ends now was ends_so
+
+    bound_is : capacity ≡ capacity_of (length xs) (length ys)
+    bound_is = bound ∙ ap (λ (c : Cache K S). c.capacity) (sym shows)
 
     abbrev close : Ended K S E
     close = record { ready = take q.ready xs'; kept = take q.write ys'; rest = drop q.read ys'; fault = fault_of res }
 
     wide : length (take capacity xs) ≡ capacity
-    wide = length-take-le capacity xs (omega arith)
+    wide = length-take-le capacity xs (omega (arith, bound_is))
 
     long : length (take n ys) ≡ n
     long = length-take-le n ys (omega arith)
@@ -79,14 +101,14 @@ module _ {K S Q A E W : Type 0} (keys : Sameness K) (ends : Endpoints S Q A E W)
         resumed xs (take n ys) r resume (capacity_of (length xs) (length ys))
         ∙ ap (λ m. ended (pass keys ends now (capacity_of (length xs) (length ys)) (take r xs) (take (min resume m) (take n ys)) (drop (min resume m) (take n ys)))) long
         ∙ ap (λ z. ended (pass keys ends now (capacity_of (length xs) (length ys)) (take r xs) (take z (take n ys)) (drop z (take n ys)))) (sym begins)
-        ∙ ap₂ (λ m z. ended (pass keys ends now m z (take from (take n ys)) (drop from (take n ys)))) (sym bound ∙ sym wide) (sym (take-take r capacity xs (omega arith)))
+        ∙ ap₂ (λ m z. ended (pass keys ends now m z (take from (take n ys)) (drop from (take n ys)))) (sym bound_is ∙ sym wide) (sym (take-take r capacity xs (omega (arith, bound_is))))
         ∙ over.same
 
     kept_long : q.write ≤ length ys'
     kept_long = omega (arith, over.went.behind, over.went.within, over.went.pending_long)
 
     poll_answer : answer_of close ≡ (poll_pending keys ends now v).answer
-    poll_answer = ap answer_of (sym is)
+    poll_answer = ap answer_of (sym is) ∙ ap (λ (c : Cache K S). (poll_pending keys ends now c).answer) shows
 
     -- the memory then: the gap in the pending list is closed
     abbrev ready_memory : List (Entry K S)
@@ -98,21 +120,23 @@ module _ {K S Q A E W : Type 0} (keys : Sameness K) (ends : Endpoints S Q A E W)
     abbrev left : ℕ
     left = q.write + (n - q.read)
 
-    poll_after : (zs : List (Entry K S)) (resume' : ℕ) → length zs ≡ length pending_memory → zs ≡ copy_within pending_memory q.read n q.write → resume' ≡ by_some (fault_of res) 0 (λ _. q.write) → seen ready_memory zs q.ready left next resume' ≡ (poll_pending keys ends now v).after
+    poll_after : (zs : List (Entry K S)) (resume' : ℕ) → length zs ≡ length pending_memory → zs ≡ copy_within pending_memory q.read n q.write → resume' ≡ by_some (fault_of res) 0 (λ _. q.write) → seen ready_memory zs q.ready left f.next_serial resume' ≡ (poll_pending keys ends now v).after
     poll_after zs resume' lz ez hr =
         let w = over.went in
-        let lx : length ready_memory ≡ length xs = length-append xs' (drop capacity xs) ∙ ap₂ (λ a b. a + b) (w.ready_long ∙ wide) (length-drop capacity xs) ∙ omega arith in
+        let lx : length ready_memory ≡ length xs = length-append xs' (drop capacity xs) ∙ ap₂ (λ a b. a + b) (w.ready_long ∙ wide) (length-drop capacity xs) ∙ omega (arith, bound_is) in
         let ly : length zs ≡ length ys = lz ∙ length-append ys' (drop n ys) ∙ ap₂ (λ a b. a + b) (w.pending_long ∙ long) (length-drop n ys) ∙ omega arith in
         let front : take q.ready ready_memory ≡ take q.ready xs' = take-append-le q.ready xs' (drop capacity xs) (omega (arith, w.fits, w.ready_long)) in
         let back : take left zs ≡ take q.write ys' ++ drop q.read ys' = ap (take left) ez ∙ closed ys' (drop n ys) n q.read q.write (w.pending_long ∙ long) w.behind (omega (arith, w.within, long)) in
         let kept : length (take q.write ys') ≡ q.write = length-take-le q.write ys' kept_long in
+        let told : seen ready_memory zs q.ready left f.next_serial resume' ≡ (poll_pending keys ends now (shown f)).after =
         rw (lx, ly, front, back)
-        (ap (λ z. record { ready = take q.ready xs'; pending = take q.write ys' ++ drop q.read ys'; next = next; resume = z; capacity = capacity_of (length xs) (length ys) }) (hr ∙ ap (λ z. by_some (fault_of res) 0 (λ _. z)) (sym kept))
-        ∙ ap (after_of next (capacity_of (length xs) (length ys))) (sym is))
+        (ap (λ z. record { ready = take q.ready xs'; pending = take q.write ys' ++ drop q.read ys'; next = f.next_serial; resume = z; capacity = capacity_of (length xs) (length ys) }) (hr ∙ ap (λ z. by_some (fault_of res) 0 (λ _. z)) (sym kept))
+        ∙ ap (after_of f.next_serial (capacity_of (length xs) (length ys))) (sym is)) in
+        told ∙ ap (λ (c : Cache K S). (poll_pending keys ends now c).after) shows
 
     -- all three: how long what stays is, what is answered, and what is left
     pub poll_told :
         (q.write ≤ length ys')
         × (answer_of close ≡ (poll_pending keys ends now v).answer)
-        × ((zs : List (Entry K S)) (resume' : ℕ) → length zs ≡ length pending_memory → zs ≡ copy_within pending_memory q.read n q.write → resume' ≡ by_some (fault_of res) 0 (λ _. q.write) → seen ready_memory zs q.ready left next resume' ≡ (poll_pending keys ends now v).after)
+        × ((zs : List (Entry K S)) (resume' : ℕ) → length zs ≡ length pending_memory → zs ≡ copy_within pending_memory q.read n q.write → resume' ≡ by_some (fault_of res) 0 (λ _. q.write) → seen ready_memory zs q.ready left f.next_serial resume' ≡ (poll_pending keys ends now v).after)
     poll_told = (kept_long, poll_answer, poll_after)

@@ -5,6 +5,7 @@ use Rattle.model.specs.Options.{by_some}
 use Rattle.lists.proofs.Places.{put_back}
 use Rattle.cache_model.specs.declared.entry.Entry.{Entry}
 use Rattle.cache_model.specs.Cache.{Cache, capacity_of, with_lists}
+use Rattle.ready_cache.specs.declared.cache.ReadyCache.TheInside.{Inside}
 
 module _ {K S : Type 0} where
   -- the first r of xs are ready, and the first p of ys pending
@@ -21,21 +22,42 @@ module _ {K S : Type 0} where
   same_length : (xs zs : List (Entry K S)) (n : ℕ) → length zs ≡ length (take n xs) → n ≤ length xs → length (zs ++ drop n xs) ≡ length xs
   same_length xs zs n e h = length-append zs (drop n xs) ∙ ap (λ m. m + length (drop n xs)) (e ∙ length-take-le n xs h) ∙ ap (λ m. n + m) (length-drop n xs) ∙ omega arith
 
-  -- the lists were written as zs and ws
-  pub rewritten : (xs ys zs ws : List (Entry K S)) (r p next resume : ℕ) → length zs ≡ length (take r xs) → r ≤ length xs → length ws ≡ length (take p ys) → p ≤ length ys → seen (zs ++ drop r xs) (ws ++ drop p ys) r p next resume ≡ with_lists (seen xs ys r p next resume) zs ws
-  rewritten xs ys zs ws r p next resume e h f k =
-      rw (same_length xs zs r e h, same_length ys ws p f k, take_at zs (drop r xs) r (e ∙ length-take-le r xs h), take_at ws (drop p ys) p (f ∙ length-take-le p ys k)) refl
+  same_front : (xs zs : List (Entry K S)) (n : ℕ) → length zs ≡ length (take n xs) → n ≤ length xs → take n (zs ++ drop n xs) ≡ zs
+  same_front xs zs n e h = take_at zs (drop n xs) n (e ∙ length-take-le n xs h)
 
-  -- the ready list was written as zs
-  pub ready_rewritten : (xs ys zs : List (Entry K S)) (r p next resume : ℕ) → length zs ≡ length (take r xs) → r ≤ length xs → seen (zs ++ drop r xs) ys r p next resume ≡ with_lists (seen xs ys r p next resume) zs (take p ys)
-  ready_rewritten xs ys zs r p next resume e h = rw (same_length xs zs r e h, take_at zs (drop r xs) r (e ∙ length-take-le r xs h)) refl
-
-  -- the cache c with the entry at i, if it is there, written as f of it
+  -- the cache c with the entry at i, if it is there, written as w of it
   abbrev pub wrote : Cache K S → ℕ → (Entry K S → Entry K S) → Option (Entry K S) → Cache K S
-  wrote c i f o = by_some o c (λ e. with_lists c (set c.ready i (f e)) c.pending)
+  wrote c i w o = by_some o c (λ e. with_lists c (set c.ready i (w e)) c.pending)
 
-  pub wrote_seen : (xs ys zs : List (Entry K S)) (r p next resume i : ℕ) (f : Entry K S → Entry K S) (o : Option (Entry K S)) → r ≤ length xs → zs ≡ by_some o (take r xs) (λ e. set (take r xs) i (f e)) → seen (zs ++ drop r xs) ys r p next resume ≡ wrote (seen xs ys r p next resume) i f o
-  wrote_seen xs ys zs r p next resume i f None h e = ap (λ ws. seen ws ys r p next resume) (put_back xs zs r e)
-  wrote_seen xs ys zs r p next resume i f (Some x) h e =
-      let n : length zs ≡ length (take r xs) = ap length e ∙ length-set (take r xs) i (f x) in
-      ready_rewritten xs ys zs r p next resume n h ∙ ap (λ ws. with_lists (seen xs ys r p next resume) ws (take p ys)) e
+module _ {K S : Type 0} (f : Inside K S) where
+  -- what the memory f shows
+  abbrev pub shown : Cache K S
+  shown = seen f.ready.now f.pending.now f.ready_count f.pending_count f.next_serial f.resume
+
+  -- the same, once the ready list was written as zs
+  abbrev pub shown_with : List (Entry K S) → Cache K S
+  shown_with zs = seen (zs ++ drop f.ready_count f.ready.now) f.pending.now f.ready_count f.pending_count f.next_serial f.resume
+
+  abbrev pub Fits : Type 0
+  Fits = f.ready_count + f.pending_count ≤ capacity_of (length f.ready.now) (length f.pending.now)
+
+  module _ (fits : Fits) where
+    ready_fits : f.ready_count ≤ length f.ready.now
+    ready_fits = omega arith
+
+    pending_fits : f.pending_count ≤ length f.pending.now
+    pending_fits = omega arith
+
+    -- the lists were written as zs and ws
+    pub rewritten : (zs ws : List (Entry K S)) → length zs ≡ length shown.ready → length ws ≡ length shown.pending → seen (zs ++ drop f.ready_count f.ready.now) (ws ++ drop f.pending_count f.pending.now) f.ready_count f.pending_count f.next_serial f.resume ≡ with_lists shown zs ws
+    rewritten zs ws e h =
+        rw (same_length f.ready.now zs f.ready_count e ready_fits, same_length f.pending.now ws f.pending_count h pending_fits, same_front f.ready.now zs f.ready_count e ready_fits, same_front f.pending.now ws f.pending_count h pending_fits) refl
+
+    -- the ready list was written as zs
+    ready_rewritten : (zs : List (Entry K S)) → length zs ≡ length shown.ready → shown_with zs ≡ with_lists shown zs shown.pending
+    ready_rewritten zs e = rw (same_length f.ready.now zs f.ready_count e ready_fits, same_front f.ready.now zs f.ready_count e ready_fits) refl
+
+    pub wrote_seen : (i : ℕ) (w : Entry K S → Entry K S) (o : Option (Entry K S)) (zs : List (Entry K S)) → zs ≡ by_some o shown.ready (λ e. set shown.ready i (w e)) → shown_with zs ≡ wrote shown i w o
+    wrote_seen i w None zs e = ap (λ ws. seen ws f.pending.now f.ready_count f.pending_count f.next_serial f.resume) (put_back f.ready.now zs f.ready_count e)
+    wrote_seen i w (Some x) zs e =
+        ready_rewritten zs (ap length e ∙ length-set shown.ready i (w x)) ∙ ap (λ ws. with_lists shown ws shown.pending) e

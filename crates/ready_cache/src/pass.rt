@@ -75,7 +75,7 @@ fn promote<K: Key, S: Endpoint>(
     Ok(len + 1)
 }
 
-// Goes from entry to entry, up to the end or a fault; what is ready joins the first ones of `ready`.
+// Goes from entry to entry, up to the end or a fault; what is ready joins the first ones of `ready`. (How far it came is in `places`, which the caller reads after a fault too.)
 fn pass<K: Key, S: Endpoint>(
     ready: &mut [Entry<K, S>],
     pending: &mut [Entry<K, S>],

@@ -65,7 +65,7 @@ impl<'a, K: Key, S: Endpoint> ReadyCache<'a, K, S> {
 }
 
 impl<'a, K: Copy, S: Endpoint> ReadyCache<'a, K, S> {
-    // Tells the worker with the serial that a request sent at `sent` is over; answers whether it is still here.
+    // Tells the worker with the serial that a request sent at `sent` is over; answers whether it is still here. (A record of the docket has the serial and `sent`, but a cache knows no docket.)
     pub fn finish(&mut self, serial: u64, sent: u64, at: u64) -> bool
         ensures answer { result ≡ (finish S.means at self.old serial sent).answer }
         ensures after { self.new ≡ (finish S.means at self.old serial sent).after }

@@ -1,54 +1,82 @@
 // What a pick answers, and how it and the lists of a cache are printed.
 use crate::kinds::Worker;
-use balance_model::answer::{CallError, CompleteError, Completion, PollError, Polled};
+use balance_model::answer::{Completion, PollError, Polled};
+use balance_model::pick;
 use cache_model::entry::Entry;
 use cache_model::error::{Failed, PendingError, PushError};
 use keys::name::Name;
 use service::poll::Poll;
 use std::fmt;
 
-// What a pick answered, also one of the cache itself; a pass has also the place where the next one starts. Faults have their numbers as the format of a run has them.
+// What a pick of the balancer or of its cache answered; a pass has also the place where the next one starts.
 #[derive(Clone, Copy)]
 pub enum Answer<E> {
-    Polled(Result<Polled, PollError<Name, u32>>),
-    Called(Result<(u64, u64), CallError>),
-    Completed(Result<Completion, CompleteError>),
+    Balancer(pick::Answer<Name, u64, u32>),
     Pushed(Result<u64, PushError<Name>>),
     Evicted(bool),
     Passed(Result<Poll<()>, PendingError<Name, E>>, usize),
     Checked(Result<bool, Failed<Name, E>>),
 }
 
-impl<E: fmt::Display> fmt::Display for Answer<E> {
+// What ended a poll, or refused a push.
+fn write_fault<W: fmt::Write>(
+    error: &PollError<Name, u32>,
+    f: &mut fmt::Formatter<W>,
+) -> fmt::Result {
+    let number = error.number();
+    match error {
+        PollError::Discover(error) => write!(f, "fault {number} {error}"),
+        PollError::NoPlace(key) => write!(f, "fault {number} {key}"),
+        PollError::Push(error) => write!(f, "fault {number} {}", error.key),
+    }
+}
+
+// What the balancer answered.
+fn write_answer<W: fmt::Write>(
+    answer: &pick::Answer<Name, u64, u32>,
+    f: &mut fmt::Formatter<W>,
+) -> fmt::Result {
+    match answer {
+        pick::Answer::Polled(Ok(Polled { worker, lost })) => match worker {
+            Poll::Ready(serial) => write!(f, "ready {serial} {lost}"),
+            Poll::Pending => write!(f, "pending {lost}"),
+        },
+        pick::Answer::Polled(Err(error)) => write_fault(error, f),
+        pick::Answer::Called(Ok((ticket, response))) => write!(f, "sent {ticket} {response}"),
+        pick::Answer::Called(Err(error)) => write!(f, "no {}", error.number()),
+        pick::Answer::Completed(Ok(Completion::Held)) => write!(f, "held"),
+        pick::Answer::Completed(Ok(Completion::Gone)) => write!(f, "gone"),
+        pick::Answer::Completed(Err(error)) => write!(f, "no {}", error.number()),
+    }
+}
+
+// Why a pass ended early, or what a check found.
+fn write_pending<E: fmt::Display + Copy, W: fmt::Write>(
+    error: &PendingError<Name, E>,
+    f: &mut fmt::Formatter<W>,
+) -> fmt::Result {
+    let number = error.number();
+    match error {
+        PendingError::NoPlace(key) => write!(f, "fault {number} {key}"),
+        PendingError::Failed(failed) => write!(f, "fault {number} {} {}", failed.key, failed.error),
+    }
+}
+
+impl<E: fmt::Display + Copy> fmt::Display for Answer<E> {
     fn fmt<W: fmt::Write>(&self, f: &mut fmt::Formatter<W>) -> fmt::Result {
         match self {
-            Answer::Polled(Ok(Polled { worker, lost })) => match worker {
-                Poll::Ready(serial) => write!(f, "ready {serial} {lost}"),
-                Poll::Pending => write!(f, "pending {lost}"),
-            },
-            Answer::Polled(Err(PollError::Discover(error))) => write!(f, "fault 12 {error}"),
-            Answer::Polled(Err(PollError::NoPlace(key))) => write!(f, "fault 10 {key}"),
-            Answer::Polled(Err(PollError::Push(error))) | Answer::Pushed(Err(error)) => {
-                write!(f, "fault {} {}", error.number(), error.key)
-            }
-            Answer::Called(Ok((ticket, response))) => write!(f, "sent {ticket} {response}"),
-            Answer::Called(Err(error)) => write!(f, "no {}", error.number()),
-            Answer::Completed(Ok(Completion::Held)) => write!(f, "held"),
-            Answer::Completed(Ok(Completion::Gone)) => write!(f, "gone"),
-            Answer::Completed(Err(error)) => write!(f, "no {}", error.number()),
+            Answer::Balancer(answer) => write_answer(answer, f),
             Answer::Pushed(Ok(serial)) => write!(f, "pushed {serial}"),
+            Answer::Pushed(Err(error)) => write_fault(&PollError::from(*error), f),
             Answer::Evicted(found) => write!(f, "{found}"),
             Answer::Passed(Ok(Poll::Ready(())), resume) => write!(f, "ready {resume}"),
             Answer::Passed(Ok(Poll::Pending), resume) => write!(f, "pending {resume}"),
-            Answer::Passed(Err(PendingError::NoPlace(key)), resume) => write!(
-                f,
-                "fault 10 {key} {resume}"
-            ),
-            Answer::Passed(Err(PendingError::Failed(failed)), resume) => {
-                write!(f, "fault 11 {} {} {resume}", failed.key, failed.error)
+            Answer::Passed(Err(error), resume) => {
+                write_pending(error, f)?;
+                write!(f, " {resume}")
             }
             Answer::Checked(Ok(ready)) => write!(f, "{ready}"),
-            Answer::Checked(Err(failed)) => write!(f, "fault 11 {} {}", failed.key, failed.error),
+            Answer::Checked(Err(failed)) => write_pending(&PendingError::from(*failed), f),
         }
     }
 }

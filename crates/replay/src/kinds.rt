@@ -21,7 +21,7 @@ impl Bare for Patterned {
         pattern
     }
 
-    // a request is the low 32 bits of the number, which `as` would have to lose nothing of, and `try_from` would refuse
+    // a request is the low 32 bits of the number: `try_from` would refuse a larger one
     fn request(number: u64) -> u32 {
         (number % 4_294_967_296) as u32
     }
@@ -37,7 +37,7 @@ impl Bare for Paced {
     }
 }
 
-// A worker of a run; it takes the requests of its bare service.
+// A worker of a run; it takes the requests of its bare service. (Either measure says so in one line: a trait cannot say it of both without naming the service.)
 pub trait Worker: Endpoint<Response = u64, Error: Display> {
     fn request(number: u64) -> Self::Request;
 

@@ -1,6 +1,7 @@
 // Reads the lines of a run.
-use crate::run::{CachePick, Chosen, Measure, Pick, Run, Words, Workers};
+use crate::run::{CachePick, Chosen, Measure, Pick, Run, Source, Workers};
 use anyhow::{Context, anyhow, bail};
+use balance_model::pick;
 use decay::Decay;
 use decay::halving::Halving;
 use decay::squaring::Squaring;
@@ -11,11 +12,12 @@ use std::alloc::Global;
 use workers::answer::Answer;
 use workers::patterned::Patterned;
 
+// (Here and in the other files a program says in its own words which value was not made: `Invalid` says the kind of value alone.)
 fn name(word: &str) -> anyhow::Result<Name> {
     Name::new(word.as_bytes()).ok().context("no name")
 }
 
-// The answer of a letter.
+// The answer of a letter. (No `From`: the type is of another crate.)
 fn answer(letter: u8) -> Answer {
     match letter {
         b'r' => Answer::Ready,
@@ -48,6 +50,7 @@ fn settings<D: Decay>(
     })
 }
 
+// An arm for each decay, since the text chooses between two types.
 fn measure(words: &[&str]) -> anyhow::Result<Measure> {
     match words {
         ["count", ..] => Ok(Measure::Count),
@@ -57,6 +60,7 @@ fn measure(words: &[&str]) -> anyhow::Result<Measure> {
         ["squaring", default_rtt, decay_period, ..] => {
             Ok(Measure::Squaring(settings(Squaring, default_rtt, decay_period)?))
         }
+        [] | ["halving" | "squaring", ..] => Err(anyhow!("a line is too short")),
         _ => Err(anyhow!("no load measure")),
     }
 }
@@ -80,7 +84,8 @@ impl Run {
         Run {
             measure: Measure::Count,
             workers: Workers::Patterned,
-            words: Words::Listed(Vec::new(heap)),
+            source: Source::List,
+            words: Vec::new(heap),
             places: 0,
             records: 0,
             budget: 0,
@@ -98,8 +103,11 @@ impl Run {
             ["load", words @ ..] => self.measure = measure(words)?,
             ["workers", "paced", ..] => self.workers = Workers::Paced,
             ["workers", _, ..] => self.workers = Workers::Patterned,
-            ["words", "hash", ..] => self.words = Words::Hashed,
-            ["words", _, words @ ..] => self.words.list(listed(heap, words)?)?,
+            ["words", "hash", ..] => self.source = Source::Hash,
+            ["words", _, words @ ..] => {
+                self.source = Source::List;
+                self.words.extend(listed(heap, words)?)?;
+            }
             ["sizes", places, records, budget, ..] => {
                 self.places = places.parse()?;
                 self.records = records.parse()?;
@@ -126,30 +134,30 @@ impl Run {
             ["pending", ..] => self.feed.push(Discovered::Pending)?,
             ["end", ..] => self.feed.push(Discovered::End)?,
             ["fault", error, ..] => self.feed.push(Discovered::Fault(error.parse()?))?,
-            _ => self.picks.push(pick(heap, words)?)?,
+            _ => self.picks.push(read_pick(heap, words)?)?,
         }
         Ok(())
     }
 }
 
-// A call of the balancer, or of its cache.
-fn pick(heap: Global, words: &[&str]) -> anyhow::Result<Pick> {
+// A pick of the balancer, or of its cache.
+fn read_pick(heap: Global, words: &[&str]) -> anyhow::Result<Pick> {
     match words {
-        ["poll", at, ..] => Ok(Pick::Poll { at: at.parse()? }),
-        ["call", at, request, ..] => Ok(Pick::Call {
+        ["poll", at, ..] => Ok(Pick::Balancer(pick::Pick::Poll { at: at.parse()? })),
+        ["call", at, request, ..] => Ok(Pick::Balancer(pick::Pick::Call {
             at: at.parse()?,
             request: request.parse()?,
-        }),
-        ["done", at, ticket, ..] => Ok(Pick::Done {
+        })),
+        ["done", at, ticket, ..] => Ok(Pick::Balancer(pick::Pick::Complete {
             at: at.parse()?,
             ticket: ticket.parse()?,
-        }),
-        _ => Ok(Pick::Cache(cache_pick(heap, words)?)),
+        })),
+        _ => Ok(Pick::Cache(read_cache_pick(heap, words)?)),
     }
 }
 
-// A call of the cache.
-fn cache_pick(heap: Global, words: &[&str]) -> anyhow::Result<CachePick> {
+// A pick of the cache.
+fn read_cache_pick(heap: Global, words: &[&str]) -> anyhow::Result<CachePick> {
     match words {
         ["push", at, key, pattern @ ..] => Ok(CachePick::Push {
             at: at.parse()?,
@@ -162,6 +170,19 @@ fn cache_pick(heap: Global, words: &[&str]) -> anyhow::Result<CachePick> {
         ["checkkey", at, key, ..] => check(at, Chosen::Key(name(key)?)),
         ["send", at, place, request, ..] => send(at, Chosen::Place(place.parse()?), request),
         ["sendkey", at, key, request, ..] => send(at, Chosen::Key(name(key)?), request),
+        [] | [_] => Err(anyhow!("a line is too short")),
+        [
+            "sizes"
+            | "first"
+            | "call"
+            | "done"
+            | "push"
+            | "check"
+            | "checkkey"
+            | "send"
+            | "sendkey",
+            ..
+        ] => { Err(anyhow!("a line is too short")) }
         _ => Err(anyhow!("no such line")),
     }
 }

@@ -1,7 +1,7 @@
 // Replays a run, with workers of its kind.
 use crate::kinds::{Bare, Worker};
-use crate::router::Router;
-use crate::run::{Measure, Run, Words, Workers};
+use crate::router::Replayed;
+use crate::run::{Measure, Run, Source, Workers};
 use anyhow::Context;
 use cache_model::entry::Entry;
 use decay::Decay;
@@ -17,9 +17,15 @@ use peak_ewma::settings::Settings;
 use rng::Rng;
 use rng::hasher_rng::HasherRng;
 use rng::list_rng::ListRng;
+use service::refusal::Invalid;
 use std::alloc::Global;
 use workers::paced::Paced;
 use workers::patterned::Patterned;
+
+// (`Invalid` says which kind of value was not made; here that is all the same.)
+fn made<T>(made: Result<T, Invalid>) -> anyhow::Result<T> {
+    made.ok().context("a value is not made")
+}
 
 impl Run {
     // Applies the picks to a newly made balancer, cache and docket, and writes after each what it answered and both lists. Memory holds `blank` at first.
@@ -38,16 +44,9 @@ impl Run {
         M: Fn(Patterned, u64) -> anyhow::Result<D::Service>,
         requires { M.IsAlwaysCallable make }
     {
-        let key = Name::new(b"0").ok().context("no name")?;
+        let key = made(Name::new(b"0"))?;
         let mut memory = Memory::new(heap, Entry::new(key, blank, 0), self.places, self.records)?;
-        let mut router = Router::new(
-            self,
-            feed,
-            words,
-            memory.ready.as_mut_slice(),
-            memory.pending.as_mut_slice(),
-            memory.records.as_mut_slice(),
-        );
+        let mut router = Replayed::new(self, feed, words, &mut memory);
         let mut out = String::from_str(heap, "run\n")?;
         for pick in self.picks.iter() {
             router.apply_and_write(*pick, &make, &mut out)?;
@@ -55,7 +54,7 @@ impl Run {
         Ok(out)
     }
 
-    // Workers are weighed by requests out.
+    // Workers are weighed by requests out. (The two measures differ in feed and worker; what they share is `replay_feed`. Here and below each function fixes one more type, so `bare` and `words` are handed on.)
     fn replay_counted<B: Bare, R: Rng + Drop>(
         &self,
         heap: Global,
@@ -89,14 +88,8 @@ impl Run {
             .iter()
             .map(|answer| answer.map(|pattern| bare.with(pattern)))
             .collect(heap)?;
-        let feed = PeakEwmaDiscover::new(ListFeed::new(answers.as_slice()), settings)
-            .ok()
-            .context("a duration is zero")?;
-        let make = |service: B, at: u64| {
-            PeakEwma::new(service, settings, at)
-                .ok()
-                .context("a duration is zero")
-        };
+        let feed = made(PeakEwmaDiscover::new(ListFeed::new(answers.as_slice()), settings))?;
+        let make = |service: B, at: u64| made(PeakEwma::new(service, settings, at));
         let blank = make(bare, 0)?;
         self.replay_feed(
             heap,
@@ -113,6 +106,7 @@ impl Run {
         bare: B,
         words: R,
     ) -> anyhow::Result<String> {
+        // an arm for each decay, since the text chooses between two types
         match self.measure {
             Measure::Count => self.replay_counted(heap, bare, words),
             Measure::Halving(settings) => self.replay_timed(heap, bare, settings, words),
@@ -121,18 +115,18 @@ impl Run {
     }
 
     fn replay_workers<B: Bare>(&self, heap: Global, bare: B) -> anyhow::Result<String> {
-        match &self.words {
-            Words::Hashed => self.replay_words(heap, bare, HasherRng::new()),
-            Words::Listed(words) => self.replay_words(heap, bare, ListRng::new(words.as_slice())),
+        // each source has a type of its own
+        match self.source {
+            Source::Hash => self.replay_words(heap, bare, HasherRng::new()),
+            Source::List => self.replay_words(heap, bare, ListRng::new(self.words.as_slice())),
         }
     }
 
     // Replays the run, and answers what is printed.
     pub fn replay(&self, heap: Global) -> anyhow::Result<String> {
+        // each service has a type of its own
         match self.workers {
-            Workers::Patterned => {
-                self.replay_workers(heap, Patterned::new(&[]).ok().context("no pattern")?)
-            }
+            Workers::Patterned => { self.replay_workers(heap, made(Patterned::new(&[]))?) }
             Workers::Paced => self.replay_workers(heap, Paced::new()),
         }
     }

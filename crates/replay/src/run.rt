@@ -1,10 +1,10 @@
 // A run as its text says it: how it is made, what its feed answers, and what is picked.
+use balance_model::pick;
 use decay::halving::Halving;
 use decay::squaring::Squaring;
 use discover::discovered::Discovered;
 use keys::name::Name;
 use peak_ewma::settings::Settings;
-use std::alloc::AllocError;
 use workers::patterned::Patterned;
 
 // By what workers are weighed: requests out, or response time by its settings.
@@ -22,22 +22,11 @@ pub enum Workers {
     Paced,
 }
 
-// The source of words: by hashing, or from a list.
-#[derive(Drop)]
-pub enum Words {
-    Hashed,
-    Listed(Vec<u64>),
-}
-
-impl Words {
-    // Words come from a list, which has these too.
-    pub fn list(&mut self, more: Vec<u64>) -> Result<(), AllocError> {
-        match self {
-            Words::Listed(words) => words.extend(more)?,
-            Words::Hashed => *self = Words::Listed(more),
-        }
-        Ok(())
-    }
+// Where words come from: by hashing a counter, or from the run's list. (The list is not in the case: a line turns to hashing, and a later one back to the list, and adds to it.)
+#[derive(Clone, Copy)]
+pub enum Source {
+    Hash,
+    List,
 }
 
 // A ready worker, by its place or by its key.
@@ -72,12 +61,10 @@ pub enum CachePick {
     },
 }
 
-// A call of the balancer, or of its cache. (A run of the crate `runs` knows no calls of the cache itself.)
+// A pick of the balancer, with a number for its request, or of its cache.
 #[derive(Clone, Copy)]
 pub enum Pick {
-    Poll { at: u64 },
-    Call { at: u64, request: u64 },
-    Done { at: u64, ticket: u64 },
+    Balancer(pick::Pick<u64>),
     Cache(CachePick),
 }
 
@@ -85,7 +72,8 @@ pub enum Pick {
 pub struct Run {
     pub measure: Measure,
     pub workers: Workers,
-    pub words: Words,
+    pub source: Source,
+    pub words: Vec<u64>,
     pub places: usize,
     pub records: usize,
     pub budget: u32,

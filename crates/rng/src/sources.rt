@@ -47,7 +47,7 @@ impl Rng for ListRng<'_> {
     fn next_u64(&mut self) -> u64 {
         let Some(word) = self.words.get(self.next) else {
             self.next = 0;
-            // no words at all
+            // no words at all: a source has no way to refuse
             return 0;
         };
         self.next += 1;

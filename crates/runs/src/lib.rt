@@ -1,4 +1,4 @@
-// Whole runs of a balancer.
+// Whole runs of a balancer. (A clause names the meanings of key, worker, weight, feed and words by their bounds, as `kinds ..`: there is no shorter form.)
 #![tactic(auto)]
 
 ghost use Rattle.std.specs.Prelude.{◌≡◌, length, IfOk};
@@ -7,7 +7,7 @@ ghost use Rattle.balance.specs.Steps.{kinds};
 ghost use Rattle.runs.specs.Runs.{making, whole_run, RanAs};
 
 pub mod ran;
-mod router;
+pub mod router;
 
 use balance::balance::Balance;
 use balance_model::docket_record::DocketRecord;
@@ -22,7 +22,7 @@ use router::Router;
 use service::Endpoint;
 use std::alloc::{AllocError, Global};
 
-// Makes a new balancer, cache and docket, applies the picks in order, and gives back every answer and how the three stand then.
+// Makes a new balancer, cache and docket, applies the picks in order, and gives back every answer and how the three stand then. (Three slices are lent, whoever owns them: a struct that owns its memory would ask for more.)
 //
 // The clauses below hold of every run, whatever the kinds of key, worker, weight, feed and words, and whatever is picked; all but the first are parts of `promise`:
 // - answers: every answer, and both lists and the docket at the close, are those of the model's steps, one after the other

@@ -1,4 +1,4 @@
-// What a run works on.
+// What a run works on, step by step.
 ghost use Rattle.std.specs.Prelude.{◌≡◌, IfOk};
 ghost use Rattle.balance_model.specs.History.{event, after, answer_of, apply_all};
 ghost use Rattle.balance.specs.Steps.{kinds};
@@ -17,10 +17,10 @@ use std::alloc::{AllocError, Global};
 
 // A balancer with its cache and its docket.
 #[derive(Drop)]
-pub(crate) struct Router<'a, K, S, D, R> {
-    pub(crate) balance: Balance<D, R>,
-    pub(crate) cache: ReadyCache<'a, K, S>,
-    pub(crate) docket: Docket<'a>,
+pub struct Router<'a, K, S, D, R> {
+    pub balance: Balance<D, R>,
+    pub cache: ReadyCache<'a, K, S>,
+    pub docket: Docket<'a>,
 }
 
 impl<'a, D: Discover, R: Rng> Router<'a, D::Key, D::Service, D, R>
@@ -28,7 +28,7 @@ where
     D::Service: Endpoint,
 {
     // Applies one pick.
-    fn step(
+    pub fn step(
         &mut self,
         pick: Pick<<D::Service as Endpoint>::Request>,
     ) -> Answer<D::Key, <D::Service as Endpoint>::Response, D::Error>

@@ -76,7 +76,7 @@ pub trait Endpoint: Copy {
         ensures answer { result ≡ (endpoint_called means self.old request at).answer }
         ensures after { self.new ≡ (endpoint_called means self.old request at).after };
 
-    // A request that was sent at `sent` is over.
+    // A request that was sent at `sent` is over. (Two instants, and no pair: some measures read neither.)
     fn finish(&mut self, sent: u64, at: u64)
         ensures { self.new ≡ means.finished self.old sent at };
 

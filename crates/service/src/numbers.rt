@@ -7,6 +7,7 @@ ghost use Rattle.service.specs.Numbers.{service_number, endpoint_number, invalid
 use crate::readiness::Readiness;
 use crate::refusal::{EndpointRefusal, Invalid, ServiceRefusal};
 
+// (Written out, and not derived: a derive is of another library, asks for a text of each error, and says nothing of what `?` gives.)
 impl From<ServiceRefusal> for EndpointRefusal {
     ghost from_gives = { λ _ refusal. refusal ≡ NoGrant };
 
@@ -37,7 +38,7 @@ impl EndpointRefusal {
 }
 
 impl Invalid {
-    // The number of the refusal, whichever value was not made.
+    // The number of the refusal: one for all, whichever value was not made, so it is no discriminant.
     pub fn number(self) -> u8
         ensures { result ≡ invalid_number self }
     {

@@ -69,6 +69,7 @@ fn answer(heap: Global, words: &[&str]) -> anyhow::Result<String> {
             Ok(format!(in heap; "{a} {b}")?)
         }
         ["nanos", number, ..] => hex(heap, f64_to_bits_with_nan(nanos(number.parse()?))),
+        // two of each, since the text chooses between two types
         ["halving", words @ ..] => hex(heap, share(Halving, words)?),
         ["squaring", words @ ..] => hex(heap, share(Squaring, words)?),
         ["halved", words @ ..] => hex(heap, estimate(Halving, words)?),

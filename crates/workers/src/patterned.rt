@@ -1,5 +1,5 @@
 // A service that gives stored answers in turn. The answers are packed, two bits each, the first in the lowest bits.
-// Packed in a number, as all that an entry holds is: it has no arrays.
+// Packed in a number, with the place of the next one beside it, as a rule of the product has it.
 #[derive(Clone, Copy)]
 pub struct Patterned {
     pub(crate) answers: u64,

@@ -68,6 +68,7 @@ impl Service for Patterned {
             1 => Readiness::Ready,
             _ => Readiness::Failed(place),
         };
+        // one question, one place further: there is no loop
         self.next = if place + 1 < self.len { place + 1 } else { 0 };
         self.grant = match answer {
             Readiness::Ready => Some(at),

@@ -1,8 +1,6 @@
 use Rattle.std.proofs.Common.{[], is_some, sym, ap, ◌∙◌}
-use Rattle.std.proofs.lemmas.List.{append-nil}
-use Rattle.lists.proofs.Places.{not_found}
 use Rattle.cache_model.specs.Entries.{cancelled, live_of}
-use Rattle.entries.proofs.Lists.{changed_at, any_live_is, cancel_is}
+use Rattle.entries.proofs.Lists.{changed_at, unchanged, any_live_is, cancel_is}
 use Rattle.entries.proofs.cancel.Goals as goal
 
 pub returns-in_default : goal.returns-in_default
@@ -13,7 +11,7 @@ returns-in_default g c =
     let place = c.in_default.ensures.answer in
     record {
       answer = ap is_some place ∙ any_live_is m k xs;
-      after = sym (cancel_is m k xs ∙ not_found (live_of m k) cancelled [] xs (sym place) ∙ append-nil xs);
+      after = unchanged (live_of m k) cancelled xs place ∙ sym (cancel_is m k xs);
     }
 
 pub returns : goal.returns

@@ -1,17 +1,14 @@
 use Rattle.std.proofs.Common.{[], get_or, set, sym, ap, ◌∙◌}
-use Rattle.std.proofs.lemmas.List.{append-nil}
-use Rattle.lists.proofs.Places.{not_found}
 use Rattle.cache_model.specs.Entries.{holding, has_serial}
-use Rattle.entries.proofs.Lists.{changed_at, finish_is}
+use Rattle.entries.proofs.Lists.{changed_at, unchanged, finish_is}
 use Rattle.entries.proofs.finish.Goals as goal
 
 pub returns-in_default-clause-after : goal.returns-in_default-clause-after
 returns-in_default-clause-after g c =
     let m = g.S.Endpoint.means in
     let xs = c.args.items.now in
-    sym (finish_is m c.args.at xs c.args.serial c.args.sent
-    ∙ not_found (has_serial c.args.serial) (λ z. holding z (m.finished z.endpoint c.args.sent c.args.at)) [] xs (sym c.in_default.ensures.answer)
-    ∙ append-nil xs)
+    unchanged (has_serial c.args.serial) (λ z. holding z (m.finished z.endpoint c.args.sent c.args.at)) xs c.in_default.ensures.answer
+    ∙ sym (finish_is m c.args.at xs c.args.serial c.args.sent)
 
 pub returns-clause-after : goal.returns-clause-after
 returns-clause-after g c =

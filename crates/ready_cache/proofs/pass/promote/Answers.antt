@@ -1,7 +1,8 @@
 use Rattle.std.proofs.Common.{◌<◌, ◌||◌, ltb, [], ◌∷◌, length, get_or, take, set, is_some, sym, ap, ◌∙◌, arith}
+use Rattle.std.proofs.Math.Seq.{take-set-lt}
 use Rattle.std.proofs.lemmas.List.{length-take-le, take_more_set, get_or-take}
 use Rattle.std.proofs.lemmas.Bool.{lt-ltb}
-use Rattle.lists.proofs.Places.{not_found, take_set_in}
+use Rattle.lists.proofs.Places.{not_found}
 use Rattle.cache_model.specs.Entries.{has_key}
 use Rattle.entries.proofs.Lists.{changed_at, renewed, promote_is}
 use Rattle.ready_cache.proofs.pass.promote.Goals as goal
@@ -20,7 +21,7 @@ returns-in-Some g c =
       place = ap (λ o. is_some o || ltb (length (take n xs)) (length xs)) (sym place);
       list =
           ap (λ r. take n (set xs i (renewed keys e r))) c.index-items-i.is
-          ∙ take_set_in xs n i (renewed keys e (get_or xs i d))
+          ∙ take-set-lt n xs i (renewed keys e (get_or xs i d)) within
           ∙ ap (λ r. set (take n xs) i (renewed keys e r)) (sym (get_or-take n xs i d within))
           ∙ changed_at (has_key keys e.key) (renewed keys e) (e ∷ []) (take n xs) i d place
           ∙ sym (promote_is keys e (take n xs));

@@ -1,14 +1,7 @@
 use Rattle.std.proofs.Common.{not, ap, ◌∙◌}
 use Rattle.balance.specs.Steps.{kinds}
-use Rattle.balance.proofs.Searching.{ends_at, again_at, falls_at, ready_at}
+use Rattle.balance.proofs.Searching.{again_at, falls_at}
 use Rattle.balance.proofs.balance.Balance.choose.Goals as goal
-
-pub returns-then-is_none : goal.returns-then-is_none
-returns-then-is_none g c =
-    let m = kinds g.D.Key.Key.sameness g.D.Service.Endpoint.means g.D.Service.Metric.Weight.order g.D.Discover.feeds g.R.Rng.source in
-    let a = c.in-Some.ensures in
-    let d = c.p2c_ready_index-selected in
-    ends_at m c.args.at c.loop-gone.selected c.loop-gone.cache c.ask_selected.new.cache d.new.cache _ c.loop-gone.lost c.args.lost c.in-Some.gone c.loop-gone.self d.new.self _ c.loop-gone.invariant a.answer a.after d.ensures.after d.ensures.cache d.result d.ensures.answer (c.is_none.ensures ∙ ap not c.if-is_none.true)
 
 pub loop-gone-smaller : goal.loop-gone-smaller
 loop-gone-smaller g c =
@@ -23,9 +16,3 @@ loop-gone-preserved g c =
     let a = c.in-Some.ensures in
     let d = c.p2c_ready_index-selected in
     again_at m c.args.at c.loop-gone.selected c.loop-gone.cache c.ask_selected.new.cache d.new.cache _ c.loop-gone.lost c.args.lost c.in-Some.gone c.loop-gone.self d.new.self c.args.self.now c.loop-gone.invariant a.answer a.after d.ensures.after d.ensures.cache d.result d.ensures.answer (c.is_none.ensures ∙ ap not c.if-is_none.false)
-
-pub returns-in_default : goal.returns-in_default
-returns-in_default g c =
-    let m = kinds g.D.Key.Key.sameness g.D.Service.Endpoint.means g.D.Service.Metric.Weight.order g.D.Discover.feeds g.R.Rng.source in
-    let a = c.in_default.ensures in
-    ready_at m c.args.at c.loop-gone.selected c.loop-gone.cache c.ask_selected.new.cache _ c.loop-gone.lost c.args.lost c.loop-gone.self _ c.loop-gone.invariant a.answer a.after
