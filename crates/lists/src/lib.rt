@@ -5,19 +5,16 @@ ghost use Rattle.std.specs.Prelude.{◌≡◌, ℕ, ◌-◌, ◌<◌, Bool, leng
 ghost use Rattle.std.specs.Fn.{FnReturnsAt};
 ghost use Rattle.model.specs.Lists.{at, place_of, swap_remove};
 
-// Takes the item at a place away: the last one moves into the gap, and what is left is all but the last place. Past the end nothing changes.
-#[tactic(auto, using(crate::proofs::Places::swap_remove_swapped))]
+// Takes the item at a place away: the last one moves into the gap, and what is left is all but the last place. Past the end nothing changes. (Written over: `swap` was tried, and copies back the item that leaves.)
+#[tactic(auto, using(crate::proofs::Places::swap_remove_written))]
 pub fn swap_remove<T: Copy>(items: &mut [T], i: usize) -> Option<T>
     ensures answer { result ≡ at items.old i }
     ensures after { MatchOption result (items.new ≡ items.old) (λ _. take (length items.old - 1) items.new ≡ swap_remove items.old i) }
     ensures within { OnSome result (i < length items.old) }
 {
-    if i >= items.len() {
-        return None;
-    }
-    let last = items.len() - 1;
-    items.swap(i, last);
-    Some(items[last])
+    let item = *items.get(i)?;
+    items[i] = items[items.len() - 1];
+    Some(item)
 }
 
 // The place of the first item that passes a test. Four are tested before one branch is taken, so that they are read side by side. (std's `position` alone was tried, and misses the speed that the product promises: docs/PERFORMANCE.md.)

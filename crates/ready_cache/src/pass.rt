@@ -36,7 +36,8 @@ fn turn<K: Copy, S: Endpoint>(
         return Ok(None);
     }
     match entries::ask(items, read, at) {
-        Ok(true) => Ok(Some(items[read])),
+        // returned here: as the value of the `match` the entry is copied once more
+        Ok(true) => return Ok(Some(items[read])),
         Ok(false) => {
             move_down(items, read, places.write);
             places.read += 1;
