@@ -17,7 +17,7 @@ pub fn swap_remove<T: Copy>(items: &mut [T], i: usize) -> Option<T>
     Some(item)
 }
 
-// The place of the first item that passes a test. Four are tested before one branch is taken, so that they are read side by side. (std's `position` alone was tried, and misses the speed that the product promises: docs/PERFORMANCE.md.)
+// The place of the first item that passes a test. Four are tested before one branch is taken, so that they are read side by side. (std's `position` alone was tried, and takes longer at 64 workers and more: docs/PERFORMANCE.md.)
 pub fn position<T, P: Fn(&T) -> bool>(items: &[T], test: P) -> Option<usize>
     requires { P.IsAlwaysCallable test }
     ensures answer { (p : T → Bool) → ((x : T) (b : Bool) → FnReturnsAt P.Fn test x b → b ≡ p x) → result ≡ place_of p items.now }
