@@ -119,7 +119,7 @@ where
         requires { lost ≤ 4096 }
         ensures { SoughtAs (select (kinds D.Key.sameness D.Service.means D.Service.Metric.order D.feeds R.source) at self.old.selected cache.old self.old.words) lost result self.old self.new cache.new }
     {
-        // each worker that is held is lost at most once, so the count fits (the clause says the number that `MOST` is, for its reader)
+        // each worker that is held is lost at most once, so the count fits
         prove!(cache.len() <= MOST);
         let mut selected = self.selected;
         loop {

@@ -175,7 +175,7 @@ where
     Some(sum)
 }
 
-// (Each makes its own feed and blank worker, of its own types: in one over a closure, what `map` asks of it was left to prove.)
+// (Each chains its own feed: in one over a closure, what `map` asks of it was left to prove.)
 fn run_counted(heap: Global, shape: Shape) -> Option<u64> {
     let first = counted(heap, shape.arrivals(heap)?)?;
     let round = counted(heap, shape.turnover(heap)?)?;

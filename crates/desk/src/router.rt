@@ -22,7 +22,7 @@ use std::convert::Infallible;
 use std::iter::repeat_n;
 use workers::paced::Paced;
 
-// A key, or the fault that its text is no name. (Here and below a program says in its own words which value was not made: `Invalid` says the kind of value alone. So each program has its own `name`.)
+// A key, or the fault that its text is no name. (Here and below a program says in its own words which value was not made: `Invalid` says the kind of value alone.)
 fn name(text: &str) -> anyhow::Result<Name> {
     Name::new(text.as_bytes()).ok().context("not a name")
 }
@@ -37,7 +37,6 @@ fn feed<S: Copy>(heap: Global, worker: S) -> anyhow::Result<Vec<Discovered<Name,
     for text in week::WITHDRAWN {
         answers.push(Discovered::Remove(name(text)?))?;
     }
-    // the same as for Monday's workers; the withdrawals come between
     for text in week::ADDED {
         answers.push(Discovered::Insert(name(text)?, worker))?;
     }

@@ -53,7 +53,7 @@ impl<'a, K: Copy, S: Copy> ReadyCache<'a, K, S> {
         self.ready.len().min(self.pending.len()).min(MOST)
     }
 
-    // The ready entries. (The lists, their lengths and their iterators stand here for both, in one expression each, under tower's names or after them.)
+    // The ready entries. (What follows stands for both lists, under tower's names, in one expression each.)
     fn ready(&self) -> &[Entry<K, S>]
         ensures { result.now ≡ self.now.ready }
     {

@@ -8,7 +8,7 @@ use keys::name::Name;
 use service::poll::Poll;
 use std::fmt;
 
-// What a pick of the balancer or of its cache answered; a pass has also the place where the next one starts. Refusals are printed by their numbers: the format of a run has them.
+// What a pick of the balancer or of its cache answered; a pass has also the place where the next one starts.
 #[derive(Clone, Copy)]
 pub enum Answer<E> {
     Balancer(pick::Answer<Name, u64, u32>),

@@ -12,7 +12,7 @@ use std::alloc::Global;
 use workers::answer::Answer;
 use workers::patterned::Patterned;
 
-// (Here and in the other files a program says in its own words which value was not made: `Invalid` says the kind of value alone. So each program has its own `name`.)
+// (Here and in the other files a program says in its own words which value was not made: `Invalid` says the kind of value alone.)
 fn name(word: &str) -> anyhow::Result<Name> {
     Name::new(word.as_bytes()).ok().context("no name")
 }

@@ -62,7 +62,7 @@ impl Service for Patterned {
 
     fn poll_ready(&mut self, at: u64) -> Readiness<u8> {
         let place = self.next % 32;
-        // two bits of the packed answers: that they are packed is a rule of the product
+        // two bits of the packed answers
         let answer = match (self.answers >> (2 * place)) % 4 {
             0 => Readiness::Pending,
             1 => Readiness::Ready,
