@@ -184,4 +184,3 @@ module _ {K S Q A E W : Type 0} (keys : Sameness K) (ends : Endpoints S Q A E W)
           count = omega arith;
           fits = omega arith;
         }
-    -- a pass that lost nobody is the last

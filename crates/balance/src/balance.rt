@@ -7,7 +7,7 @@ pub struct Balance<D, R> {
     pub(crate) rng: R,
     pub(crate) budget: u32,
     pub(crate) selected: Option<usize>,
-    // beside the selection, since a poll that a fault ends keeps that and clears this
+    // beside the selection, since a poll that a fault ends keeps that and clears this; with one enum of three cases (none, selected, fresh) each of these would have to turn one case into another
     pub(crate) fresh: bool,
 }
 

@@ -1,4 +1,4 @@
-// Sending a request to the worker that the latest poll named. (A balancer owns neither cache nor docket: each call is handed both.)
+// Sending a request to the worker that the latest poll named. (A balancer owns neither cache nor docket: a call is handed both, and its instant. In the clauses `kinds ..` names the meanings of five bounds, as lib.rt says.)
 ghost use Rattle.std.specs.Prelude.{◌≡◌};
 ghost use Rattle.balance_model.specs.Balance.{call, call_answer};
 ghost use Rattle.balance.specs.Steps.{kinds, state};

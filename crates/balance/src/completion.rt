@@ -1,4 +1,4 @@
-// The end of a request (tower: load/completion). It is handed the cache and the docket, as each call of a balancer is.
+// The end of a request (tower: load/completion). It is handed the cache and the docket, as a call is.
 ghost use Rattle.std.specs.Prelude.{◌≡◌};
 ghost use Rattle.balance_model.specs.Balance.{complete};
 

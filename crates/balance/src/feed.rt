@@ -1,4 +1,4 @@
-// Reading the feed: workers come in and go.
+// Reading the feed: workers come in and go. (A balancer owns no cache: the steps that change it are handed it, and those that read the feed the instant of the poll too. In the clauses `kinds ..` names the meanings of five bounds, as lib.rt says.)
 ghost use Rattle.std.specs.Prelude.{◌≡◌, length, Ok, Err};
 ghost use Rattle.model.specs.Options.{by_some};
 ghost use Rattle.cache_model.specs.Entries.{ready_place};

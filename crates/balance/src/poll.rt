@@ -1,4 +1,4 @@
-// A poll of the balancer.
+// A poll of the balancer. (A balancer owns no cache: a poll is handed it, with its own instant. In the clauses `kinds ..` names the meanings of five bounds, as lib.rt says.)
 ghost use Rattle.std.specs.Prelude.{◌≡◌};
 ghost use Rattle.balance_model.specs.Balance.{poll, serial_at};
 ghost use Rattle.balance_model.specs.Polls.{PollLawful};

@@ -1,4 +1,4 @@
-// The search for a ready worker.
+// The search for a ready worker. (A balancer owns no cache: each step is handed it, with the instant of the poll. In the clauses `kinds ..` names the meanings of five bounds, as lib.rt says.)
 ghost use Rattle.std.specs.Prelude.{◌≡◌, ◌≤◌};
 ghost use Rattle.cache_model.specs.Cache.{poll_pending};
 ghost use Rattle.balance_model.specs.Draw.{weigh, draw};
@@ -119,7 +119,7 @@ where
         requires { lost ≤ 4096 }
         ensures { SoughtAs (select (kinds D.Key.sameness D.Service.means D.Service.Metric.order D.feeds R.source) at self.old.selected cache.old self.old.words) lost result self.old self.new cache.new }
     {
-        // each worker that is held is lost at most once, so the count fits
+        // each worker that is held is lost at most once, so the count fits (the clause says the number that `MOST` is, for its reader)
         prove!(cache.len() <= MOST);
         let mut selected = self.selected;
         loop {

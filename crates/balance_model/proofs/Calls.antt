@@ -33,9 +33,6 @@ use Rattle.service.specs.declared.refusal.EndpointRefusal.TheVariants.{AtCeiling
 use Rattle.balance_model.specs.declared.answer.DocketRefusal.TheVariants as docket
 use Rattle.balance_model.specs.declared.answer.CallError.TheVariants as error
 
-no_both : {P : Type 0} → true ≡ false → P
-no_both e = cc
-
 -- what the docket refuses has the number 7 or 8
 from_seven : (r : DocketRefusal) → 7 ≤ docket_number r
 from_seven docket.Full = omega arith
@@ -271,7 +268,7 @@ module _ {K S Q A E W D F R : Type 0} (m : Meanings K S Q A E W D F R) (now : �
     records = records_after;
     tickets = tickets_after;
     unissued = λ t above. let u = o.unissued t (omega arith) in record { out = u.out; nowhere = λ x. other_ticket t x (omega arith) ∙ u.nowhere x };
-    fresh = λ e. no_both (sym e);
+    fresh = λ e. cc;
     spent = λ _. inr (inr tt);
     calls = (record { reached = (s.named, s.said); six = (λ g. absurd g, λ p. not_spent m now b c.ready h s p); never = (λ g. g, λ g. g) }, o.calls);
     draws = o.draws;

@@ -58,9 +58,6 @@ module _ {K S Q A E W D F R : Type 0} (m : Meanings K S Q A E W D F R) (now : �
         brings = λ s n h. let q = same (is_pair s n) in ap (brought_in m.endpoints.count s) e ∙ r.brings s n (omega arith);
       }
 
-  true_false : {P : Type 0} → true ≡ false → P
-  true_false e = cc
-
   false_true : {P : Type 0} → false ≡ true → P
   false_true e = cc
 
@@ -105,7 +102,7 @@ module _ {K S Q A E W D F R : Type 0} (m : Meanings K S Q A E W D F R) (now : �
 
           nobody_at : (o : Option ℕ) → by_some o false (λ _. true) ≡ false → ready_worker (serial_at sought.cache o) ≡ None
           nobody_at None e = refl
-          nobody_at (Some i) e = true_false e
+          nobody_at (Some i) e = cc
 
           -- the worker that a poll answers with
           worker_of : Result Polled (PollError K F) → Poll ℕ

@@ -1,5 +1,5 @@
 // How faults rise: a refusal of an endpoint to the cache, and a failed worker to a pass over the pending ones.
-// (Written out, and not derived: a derive is of another library, asks for a text of each error, and says nothing of what `?` gives.)
+// (Written out, and not derived: a derive is of another library, asks for a text of each error, and says nothing of what `?` gives; and no derive leads from case to case.)
 ghost use Rattle.std.specs.Prelude.{◌≡◌};
 ghost use Rattle.cache_model.specs.Answers.{as_call};
 ghost use Rattle.cache_model.specs.declared.error.PendingError.TheVariants as pending;

@@ -40,12 +40,13 @@ fn holds(
     capacity: u32,
 ) -> Result<(), Fail> {
     let blank = Entry::new(0, worker()?, 0);
+    // not a `Memory`, whose two lists are of one length
     let mut ready = vec![in heap; blank; ready]?;
     let mut pending = vec![in heap; blank; pending]?;
     let mut cache = ReadyCache::new(ready.as_mut_slice(), pending.as_mut_slice(), 1);
     assert_eq!(rt; push_all(&mut cache, capacity)?, (capacity, None));
     assert_eq!(rt; push_all(&mut cache, 1)?, (0, Some(PushRefusal::Full)));
-    assert!(rt; matches!(cache.poll_pending(0), Ok(Poll::Ready(()))));
+    assert_eq!(rt; cache.poll_pending(0), Ok(Poll::Ready(())));
     assert_eq!(rt; cache.ready_len(), capacity as usize);
     assert_eq!(rt; push_all(&mut cache, 1)?, (0, Some(PushRefusal::Full)));
     assert_eq!(rt; cache.evict(&0), capacity > 0);
@@ -72,8 +73,8 @@ fn nothing_in_an_empty_cache(rt: HostRuntime) {
         &mut [],
         1,
     );
-    assert!(rt; matches!(cache.check_ready_index(0, 0), Ok(false)));
-    assert!(rt; matches!(cache.check_ready(&0, 0), Ok(false)));
+    assert_eq!(rt; cache.check_ready_index(0, 0), Ok(false));
+    assert_eq!(rt; cache.check_ready(&0, 0), Ok(false));
     assert!(rt; cache.load_ready_index(0, 0).is_none());
     assert!(rt; !cache.finish(1, 0, 0));
     assert!(rt; cache.is_empty());

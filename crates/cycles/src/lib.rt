@@ -141,6 +141,7 @@ where
     R: Rng,
     D::Service: Endpoint<Request = u32, Response = u64>,
 {
+    // a `Poll` is no Option, and a conversion would be a public function for two places
     let Poll::Ready(serial) = balance.poll_ready(cache, at).ok()?.worker else {
         return None;
     };
@@ -175,7 +176,7 @@ where
     Some(sum)
 }
 
-// (Each chains its own feed: in one over a closure, what `map` asks of it was left to prove.)
+// (Each makes its own feed and blank worker, of its own types: in one over a closure, what `map` asks of it was left to prove.)
 fn run_counted(heap: Global, shape: Shape) -> Option<u64> {
     let first = counted(heap, shape.arrivals(heap)?)?;
     let round = counted(heap, shape.turnover(heap)?)?;

@@ -49,8 +49,7 @@ fn print_table(rt: &HostRuntime, title: &str, tickets: &[Ticket]) -> anyhow::Res
     println!(rt; "")?;
     println!(rt; "{title}")?;
     println!(rt; "worker sent completed still out lost")?;
-    for serial in 1..=week::SERIALS {
-        let name = week::worker(serial);
+    for (serial, name) in (1u64..).zip(week::workers()) {
         let tally = Tally::of(tickets, serial);
         println!(rt; "{name:<6} {tally}")?;
     }

@@ -22,7 +22,7 @@ use std::convert::Infallible;
 use std::iter::repeat_n;
 use workers::paced::Paced;
 
-// A key, or the fault that its text is no name. (Here and below a program says in its own words which value was not made: `Invalid` says the kind of value alone.)
+// A key, or the fault that its text is no name. (Here and below the words are this program's own: a `Display` of `Invalid` would have one text for all programs. So `desk` and `replay` have a `name` each, and no crate has one for both.)
 fn name(text: &str) -> anyhow::Result<Name> {
     Name::new(text.as_bytes()).ok().context("not a name")
 }
@@ -37,6 +37,7 @@ fn feed<S: Copy>(heap: Global, worker: S) -> anyhow::Result<Vec<Discovered<Name,
     for text in week::WITHDRAWN {
         answers.push(Discovered::Remove(name(text)?))?;
     }
+    // the same as for Monday's workers; the withdrawals come between
     for text in week::ADDED {
         answers.push(Discovered::Insert(name(text)?, worker))?;
     }
@@ -69,7 +70,7 @@ const WORKERS: usize = 16;
 
 const REQUESTS: usize = 64;
 
-// Runs the picks over a feed, and answers the tickets.
+// Runs the picks over a feed, and answers the tickets. (`run` is lent three slices, whoever owns them: here a `Memory` does.)
 fn tickets_of<D: Discover<Key = Name, Error = Infallible> + Drop>(
     heap: Global,
     discover: D,

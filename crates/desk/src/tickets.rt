@@ -32,7 +32,7 @@ impl fmt::Display for Ticket {
     }
 }
 
-// Notes that a ticket was completed.
+// Notes that a ticket was completed. (A week's tickets are looked through by `find`: a map would be made for one page.)
 fn close(tickets: &mut [Ticket], number: u64, found: Completion) {
     if let Some(ticket) = tickets.iter_mut().find(|ticket| ticket.number == number) {
         ticket.completion = Some(found);
@@ -50,7 +50,7 @@ pub fn tickets<K: Copy, F: Copy>(
     for (pick, answer) in picks.iter().zip(answers) {
         match (*pick, *answer, named) {
             (_, Answer::Polled(Ok(polled)), _) => {
-                // a `Poll` is no Option
+                // a `Poll` is no Option, and a conversion would be a public function for two places
                 named = match polled.worker {
                     Poll::Ready(serial) => Some(serial),
                     Poll::Pending => None,

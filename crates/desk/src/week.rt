@@ -1,5 +1,7 @@
 // The desk's week: its requests, its workers, and who comes and goes.
+use std::array::IntoIter;
 use std::fmt;
+use std::iter::Chain;
 
 // One nanosecond times this is a second.
 pub const SECOND: u64 = 1_000_000_000;
@@ -65,13 +67,15 @@ pub const WITHDRAWN: [&str; 2] = ["lon1", "tok1"];
 
 pub const ADDED: [&str; 2] = ["lon3", "sin1"];
 
-// How many workers there are in a week, which is the last serial.
-pub const SERIALS: u64 = 10;
+// The workers of a week in the order of the feed, in which serials are given, from 1.
+pub fn workers() -> Chain<IntoIter<&'static str, 8>, IntoIter<&'static str, 2>> {
+    WORKERS.into_iter().chain(ADDED)
+}
 
-// The name of the worker with a serial: serials are given in the order of the feed, from 1. (What is printed, so a serial that nobody has gets a word too. Ten names are looked through by `find`: a map would be made for one page.)
+// The name of the worker with a serial. (What is printed, so a serial that nobody has gets a word too. Ten names are looked through by `find`: a map would be made for one page.)
 pub fn worker(serial: u64) -> &'static str {
     (1u64..)
-        .zip(WORKERS.into_iter().chain(ADDED))
+        .zip(workers())
         .find(|(given, _)| *given == serial)
         .map_or("none", |(_, name)| name)
 }

@@ -7,7 +7,7 @@ use balance_model::answer::DocketRefusal;
 use balance_model::docket_record::DocketRecord;
 
 impl<'a> Docket<'a> {
-    // Notes a request that goes to the worker of this serial, and answers its ticket.
+    // Notes a request that goes to the worker of this serial, and answers its ticket. (Its serial and its instant, and no record: a record has a ticket too, which is made here.)
     pub fn note(&mut self, serial: u64, sent: u64) -> Result<u64, DocketRefusal>
         ensures answer { result ≡ (note self.old serial sent).answer }
         ensures after { self.new ≡ (note self.old serial sent).after }

@@ -69,7 +69,7 @@ impl<'a> Docket<'a> {
         self.records[..self.count].iter()
     }
 
-    // The place of the ticket's record.
+    // The place of the ticket's record. (`within` stands here since `remove` goes by that place: from the answer alone it follows by a lemma.)
     pub fn position(&self, ticket: u64) -> Option<usize>
         ensures answer { result ≡ ticket_place self.now ticket }
         ensures within { IfSome result (λ i. i < length self.now.records) }

@@ -68,7 +68,7 @@ pub fn load<K: Copy, S: Endpoint>(items: &mut [Entry<K, S>], i: usize, at: u64) 
     Some(items[i].endpoint.load(at))
 }
 
-// Tells the first entry with the serial that a request sent at `sent` is over, and answers whether there is one.
+// Tells the first entry with the serial that a request sent at `sent` is over, and answers whether there is one. (A record of the docket has both, but a list of workers knows no docket.)
 pub fn finish<K: Copy, S: Endpoint>(
     items: &mut [Entry<K, S>],
     serial: u64,

@@ -1,6 +1,7 @@
 -- Texts packed in numbers, and back.
-use Rattle.std.proofs.Common.{◌≡◌, ℕ, zero, suc, ◌+◌, ◌*◌, ◌/◌, ◌%◌, ◌^◌, ◌<◌, ◌≤◌, Bool, true, false, cond, ◌&&◌, eqb, ltb, leb, List, [], ◌∷◌, ◌++◌, length, get_or, take, is_ok, Ok, Err, Decides, Result, sym, refl, ap, ◌∙◌, subst, ap₂, append_assoc, append-nil, arith, lit<, length-take}
-use native.Mathlib.Nat.{pow-le-pow_right}
+use Rattle.std.proofs.Common.{◌≡◌, ℕ, zero, suc, ◌+◌, ◌-◌, ◌*◌, ◌/◌, ◌%◌, ◌^◌, ◌<◌, ◌≤◌, Bool, true, false, cond, ◌&&◌, eqb, ltb, leb, List, [], ◌∷◌, ◌++◌, length, get_or, take, drop, Ok, Err, Decides, Result, sym, refl, ap, ◌∙◌, subst, ap₂, append_assoc, append-nil, arith, lit<, length-take}
+use Rattle.std.proofs.Math.Nat.{pow-le-pow_right, pow-suc, pow-succ', mul-suc, zero-add, suc-add, div-div-eq-div-mul}
+use Rattle.std.specs.Int.{w64, byte_at, bytes_high_first, to_be_bytes, leading_zeros}
 use lib.Utf8.{encode, encodes}
 use Rattle.std.specs.Char.{is_ascii_alphanumeric, to_ascii_lowercase}
 use Rattle.std.specs.List.{AllByRecursion as All}
@@ -11,7 +12,7 @@ use Rattle.std.specs.declared.fmt.Formatter.{Formatter}
 use Rattle.std.proofs.Output.{writes_on_IsOk-append}
 use Rattle.std.proofs.lemmas.Str.Ascii.{encodes-IsAscii}
 use Rattle.std.proofs.ByRecursion.{IsAscii-from_all}
-use Rattle.std.proofs.lemmas.Nat.{div-mul-add, mod-mul-add}
+use Rattle.std.proofs.lemmas.Nat.{div-mul-add, mod-mul-add, pow-add, leading_length}
 use Rattle.std.proofs.lemmas.Int.Digits.{digits_of_step, number_lt, number_push}
 use Rattle.std.proofs.lemmas.List.{map_push, take_more, take_all, length-map}
 use Rattle.std.proofs.lemmas.Str.{encodes-append}
@@ -19,7 +20,7 @@ use Rattle.std.proofs.lemmas.Bool.{and_parts, and_from, eqb-true, eq-eqb}
 use Rattle.std.proofs.lemmas.Bool.Decides.{nat_tests}
 use Rattle.service.specs.declared.refusal.Invalid.TheVariants as invalid
 use Rattle.keys.specs.declared.name.Name.{Name}
-use Rattle.keys.specs.Names.{letters_or_digits, is_name, without_case, packed, name_of, new_name, shown, text_of, names, SameWithoutCase}
+use Rattle.keys.specs.Names.{letters_or_digits, is_name, without_case, packed, name_of, new_name, text_of, names, SameWithoutCase}
 
 -- ---- the bytes of a name
 
@@ -149,12 +150,44 @@ pub ruleset byte_by_byte = (small_so_far, packed_step, folded_step, made_of)
 
 -- ---- printed byte by byte
 
-shown_more : (n : ℕ) → 0 < n → shown (n / 256) ++ encode (n % 256) ≡ shown n
-shown_more n h =
-    let e : encodes (n % 256 ∷ []) ≡ encode (n % 256) = append-nil (encode (n % 256)) in
-    sym (ap encodes (digits_of_step 256 n (omega arith) h) ∙ encodes-append (digits_of 256 (n / 256)) (n % 256 ∷ []) ∙ ap (λ (l : List ℕ). shown (n / 256) ++ l) e)
+-- the lowest of some bytes is their last
+bytes_push : (k n : ℕ) → bytes_high_first (suc k) n ≡ bytes_high_first k (n / 256) ++ (n % 256 ∷ [])
+bytes_push zero n = refl
+bytes_push (suc k) n = ap₂ (λ (b : ℕ) (bs : List ℕ). b ∷ bs) (next k) (bytes_push k n)
+  where
+    next : (j : ℕ) → byte_at (suc j) n ≡ byte_at j (n / 256)
+    next zero = refl
+    next (suc j) = ap (λ (m : ℕ). m % 256) (ap (λ (m : ℕ). n / m) (pow-succ' 256 (suc j)) ∙ sym (div-div-eq-div-mul n 256 (256 ^ suc j)))
 
-pub shown_then : {W : Type 0} (took : W → List ℕ → W → Type 0) (f g h : Formatter W) (r s : Result (Unit {0}) Error) (n b : ℕ) → 0 < n → r ≡ Ok tt → b ≡ n % 256 → WritesOnOk took f r (shown (n / 256)) g → WritesOnOk took g s (encode b) h → WritesOnOk took f s (shown n) h
-shown_then took f g h r s n b some ok e p q =
-    let last = subst (λ (c : ℕ). WritesOnOk took g s (encode c) h) e q in
-    subst (λ (bs : List ℕ). WritesOnOk took f s bs h) (shown_more n some) (writes_on_IsOk-append took f g h r s (shown (n / 256)) (encode (n % 256)) (λ _. ap is_ok ok) p last)
+-- as many bytes as the number has digits are its digits
+digits_of_bytes : (k n : ℕ) → n < 256 ^ k → 256 ^ k ≤ 256 * n + 255 → bytes_high_first k n ≡ digits_of 256 n
+digits_of_bytes zero n most least = ap (digits_of 256) {x = 0} {y = n} (omega (arith, most))
+digits_of_bytes (suc k) n most least =
+    let more = pow-suc 256 k in
+    let some : 0 < 256 ^ k = pow-le-pow_right {n = 256} (lit< tt) {i = 0} {j = k} (omega arith) in
+    bytes_push k n ∙ ap (λ (bs : List ℕ). bs ++ (n % 256 ∷ [])) (digits_of_bytes k (n / 256) (omega arith) (omega arith)) ∙ sym (digits_of_step 256 n (omega arith) (omega arith))
+
+bytes_drop : (i k n : ℕ) → drop i (bytes_high_first (i + k) n) ≡ bytes_high_first k n
+bytes_drop zero k n = ap (λ (l : ℕ). bytes_high_first l n) (zero-add k)
+bytes_drop (suc i) k n = rw (suc-add i k) (bytes_drop i k n)
+
+in_bits : (k : ℕ) → 256 ^ k ≡ 2 ^ (8 * k)
+in_bits zero = refl
+in_bits (suc k) = simp (pow-suc, mul-suc, pow-add, in_bits k)
+
+pub digits_used : (n : ℕ) → n < 2 ^ 64 → drop (leading_zeros w64 n / 8) (to_be_bytes w64 n) ≡ digits_of 256 n
+digits_used n small =
+    let t = leading_length 64 n small in
+    let i : ℕ = leading_zeros w64 n / 8 in
+    let k : ℕ = 8 - i in
+    let all : 8 ≡ i + k = omega (arith, t.1) in
+    let below = pow-le-pow_right {n = 2} (lit< tt) {i = t.0} {j = 8 * k} (omega (arith, t.1)) in
+    let above = pow-le-pow_right {n = 2} (lit< tt) {i = 8 * k} {j = t.0 + 7} (omega (arith, t.1)) in
+    ap (λ (l : ℕ). drop i (bytes_high_first l n)) all ∙ bytes_drop i k n
+    ∙ digits_of_bytes k n (omega (arith, in_bits k, below, t.2)) (omega (arith, in_bits k, above, pow-add 2 t.0 7, t.3))
+
+pub letter_more : {W : Type 0} (took : W → List ℕ → W → Type 0) (f g h : Formatter W) (r : Result (Unit {0}) Error) (bs : List ℕ) (b c : ℕ) → r ≡ Ok tt → c ≡ b → WritesOnOk took f (Ok tt) (encodes bs) g → WritesOnOk took g r (encode c) h → WritesOnOk took f (Ok tt) (encodes (bs ++ (b ∷ []))) h
+letter_more took f g h r bs b c ok e p q =
+    let last = subst (λ (s : Result (Unit {0}) Error). WritesOnOk took g s (encode b) h) ok (subst (λ (d : ℕ). WritesOnOk took g r (encode d) h) e q) in
+    let text : encodes bs ++ encode b ≡ encodes (bs ++ (b ∷ [])) = sym (encodes-append bs (b ∷ []) ∙ ap (λ (l : List ℕ). encodes bs ++ l) (append-nil (encode b))) in
+    subst (λ (l : List ℕ). WritesOnOk took f (Ok tt) l h) text (writes_on_IsOk-append took f g h (Ok tt) (Ok tt) (encodes bs) (encode b) (λ x. x) p last)

@@ -65,15 +65,15 @@ impl Key for Name {
     }
 }
 
-// Writes the bytes that are packed in a number. (Of the eight bytes that `to_be_bytes` gives, those before the first letter would have to be left out.)
+// Writes the bytes that are packed in a number, from the first that is not 0 on.
 fn write_letters<W: fmt::Write>(letters: u64, f: &mut fmt::Formatter<W>) -> fmt::Result
     ensures { WritesOnOk W.Write.write_str_gives f.old result (shown letters) f.new }
 {
-    if letters == 0 {
-        return Ok(());
+    let zeros = letters.leading_zeros() as usize / 8;
+    for byte in letters.to_be_bytes().into_iter().skip(zeros) {
+        f.write_char(char::from(byte))?;
     }
-    write_letters(letters / 256, f)?;
-    f.write_char(char::from((letters % 256) as u8))
+    Ok(())
 }
 
 // As it was spelt.

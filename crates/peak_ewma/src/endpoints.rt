@@ -43,7 +43,7 @@ impl<S: Copy, D: Decay> PeakEwma<S, D> {
         RttEstimate::from_bits(self.rtt_bits, self.update_at)
     }
 
-    // Updates the estimate by a response at `at` to what was sent at `sent`, and answers it.
+    // Updates the estimate by a response at `at` to what was sent at `sent`, and answers it. (Two instants: `finish` hands them on as it is given them.)
     fn update_estimate(&mut self, sent: u64, at: u64) -> f64
         ensures answer { result ≡ (observed D.decays self.old sent at).answer }
         ensures after { self.new ≡ (observed D.decays self.old sent at).after }

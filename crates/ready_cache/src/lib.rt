@@ -53,7 +53,7 @@ impl<'a, K: Copy, S: Copy> ReadyCache<'a, K, S> {
         self.ready.len().min(self.pending.len()).min(MOST)
     }
 
-    // The ready entries. (What follows stands for both lists, under tower's names, in one expression each.)
+    // The ready entries. (The lists, their lengths and their iterators stand here once for the ready and once for the pending, one expression each; the names are tower's, or follow tower's.)
     fn ready(&self) -> &[Entry<K, S>]
         ensures { result.now ≡ self.now.ready }
     {
@@ -67,7 +67,7 @@ impl<'a, K: Copy, S: Copy> ReadyCache<'a, K, S> {
         &self.pending[..self.pending_count]
     }
 
-    // How many workers there are.
+    // How many workers there are. (The clause says the number that `MOST` is, for its reader.)
     pub fn len(&self) -> usize
         ensures count { result ≡ held self.now }
         ensures most { result ≤ 4096 }

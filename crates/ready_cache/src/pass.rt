@@ -11,7 +11,7 @@ use entries::position;
 use service::poll::Poll;
 use service::{Endpoint, Key};
 
-// Copies the item at one place to another before it; one that is at its place already is not touched.
+// Copies the item at one place to another before it; one that is at its place already is not touched. (Two numbers, and no `Places`: it needs two of the three.)
 fn move_down<T: Copy>(items: &mut [T], from: usize, to: usize)
     requires { (to ≤ from) × (from < length items.old) }
     ensures { (x : T) → x ≡ slice_index_or items.old from x → items.new ≡ slice_set items.old to x }

@@ -23,7 +23,7 @@ impl<'a, K: Key, S: Endpoint> ReadyCache<'a, K, S> {
         asked
     }
 
-    // The same by key; an unknown key is not ready.
+    // The same by key; an unknown key is not ready. (That is an answer and no fault, so there is nothing for `?` to hand on.)
     pub fn check_ready(&mut self, key: &K, at: u64) -> Result<bool, Failed<K, S::Error>>
         ensures answer { result ≡ (check_key K.sameness S.means at self.old key.now).answer }
         ensures after { self.new ≡ (check_key K.sameness S.means at self.old key.now).after }

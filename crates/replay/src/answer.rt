@@ -1,4 +1,4 @@
-// What a pick answers, and how it and the lists of a cache are printed.
+// What a pick answers, and how it and the lists of a cache are printed. Refusals are printed by their numbers: the format of a run has them.
 use crate::kinds::Worker;
 use balance_model::answer::{Completion, PollError, Polled};
 use balance_model::pick;
@@ -18,7 +18,7 @@ pub enum Answer<E> {
     Checked(Result<bool, Failed<Name, E>>),
 }
 
-// What ended a poll, or refused a push.
+// What ended a poll, or refused a push. (A function, as the two below: the types are of other crates, and `Display` cannot stand here for them.)
 fn write_fault<W: fmt::Write>(
     error: &PollError<Name, u32>,
     f: &mut fmt::Formatter<W>,

@@ -12,7 +12,7 @@ use std::alloc::Global;
 use workers::answer::Answer;
 use workers::patterned::Patterned;
 
-// (Here and in the other files a program says in its own words which value was not made: `Invalid` says the kind of value alone.)
+// (Here and in the other files the words are this program's own: a `Display` of `Invalid` would have one text for all programs. So `desk` and `replay` have a `name` each, and no crate has one for both.)
 fn name(word: &str) -> anyhow::Result<Name> {
     Name::new(word.as_bytes()).ok().context("no name")
 }

@@ -22,13 +22,13 @@ use std::alloc::Global;
 use workers::paced::Paced;
 use workers::patterned::Patterned;
 
-// (`Invalid` says which kind of value was not made; here that is all the same.)
+// (In this program's own words, which are the same for every value: see `name` in read.rt.)
 fn made<T>(made: Result<T, Invalid>) -> anyhow::Result<T> {
     made.ok().context("a value is not made")
 }
 
 impl Run {
-    // Applies the picks to a newly made balancer, cache and docket, and writes after each what it answered and both lists. Memory holds `blank` at first.
+    // Applies the picks to a newly made balancer, cache and docket, and writes after each what it answered and both lists. Memory holds `blank` at first. (That `make` can be called is asked here and where it is handed on: a bound cannot say it.)
     fn replay_feed<D, R, M>(
         &self,
         heap: Global,
@@ -54,7 +54,7 @@ impl Run {
         Ok(out)
     }
 
-    // Workers are weighed by requests out. (The two measures differ in feed and worker; what they share is `replay_feed`. Here and below each function fixes one more type, so `bare` and `words` are handed on.)
+    // Workers are weighed by requests out. (The two measures differ in feed and worker; what they share is `replay_feed`. Here and below each function fixes one more type, so `heap`, `bare` and `words` are handed on.)
     fn replay_counted<B: Bare, R: Rng + Drop>(
         &self,
         heap: Global,

@@ -30,7 +30,7 @@ where
     D::Service: Worker,
     R: Rng,
 {
-    // A new balancer, cache and docket, in this memory.
+    // A new balancer, cache and docket, in this memory. (Three constructors, as in `run`: a function over them would take their eight parameters.)
     pub fn new(run: &Run, feed: D, words: R, memory: &'a mut Memory<Name, D::Service>) -> Self {
         Replayed {
             router: Router {

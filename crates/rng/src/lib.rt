@@ -23,7 +23,7 @@ pub trait Rng {
         ensures answer { result ≡ (source.word self.old).answer }
         ensures after { self.new ≡ (source.word self.old).after };
 
-    // A number of the range, by the next word; an empty range answers its start and takes no word. (It has no way to refuse.)
+    // A number of the range, by the next word; an empty range answers its start and takes no word. (That is a rule of the product: a source has no way to refuse.)
     fn next_range(&mut self, range: Range<u64>) -> u64
         ensures answer { result ≡ (in_range source self.old range.start range.end).answer }
         ensures after { self.new ≡ (in_range source self.old range.start range.end).after }
@@ -35,7 +35,7 @@ pub trait Rng {
     }
 }
 
-// Two different places below `length` by two words: the first below length - 1, which becomes the last place where the second is the same. Below two places it answers [0, 0] and takes no word. (It has no way to refuse.)
+// Two different places below `length` by two words: the first below length - 1, which becomes the last place where the second is the same. Below two places it answers [0, 0] and takes no word. (That is a rule of the product, so it is no Option.)
 #[tactic(auto, using(crate::proofs::Samples::of_floyd, crate::proofs::Samples::different, sampling::proofs::Shares::fair_shares))]
 pub fn sample_floyd2<R: Rng>(rng: &mut R, length: u64) -> [u64; 2]
     ensures answer { result ≡ (sample R.source rng.old length).answer }

@@ -22,7 +22,7 @@ use router::Router;
 use service::Endpoint;
 use std::alloc::{AllocError, Global};
 
-// Makes a new balancer, cache and docket, applies the picks in order, and gives back every answer and how the three stand then. (Three slices are lent, whoever owns them: a struct that owns its memory would ask for more.)
+// Makes a new balancer, cache and docket, applies the picks in order, and gives back every answer and how the three stand then. (Three slices are lent, whoever owns them: a struct that owns its memory would ask for more. The three numbers stand by themselves: a struct of them would be made for this one call.)
 //
 // The clauses below hold of every run, whatever the kinds of key, worker, weight, feed and words, and whatever is picked; all but the first are parts of `promise`:
 // - answers: every answer, and both lists and the docket at the close, are those of the model's steps, one after the other

@@ -1,4 +1,4 @@
-// What a run works on, step by step.
+// What a run works on, step by step. (In the clauses `kinds ..` names the meanings of five bounds, as lib.rt says.)
 ghost use Rattle.std.specs.Prelude.{◌≡◌, IfOk};
 ghost use Rattle.balance_model.specs.History.{event, after, answer_of, apply_all};
 ghost use Rattle.balance.specs.Steps.{kinds};

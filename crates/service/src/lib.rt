@@ -52,7 +52,7 @@ pub trait Service: Copy {
         ensures after { self.new ≡ (service_called serves self.old request at).after };
 }
 
-// A service that also counts its requests out and has a weight.
+// A service that also counts its requests out and has a weight. (`Service` is no supertrait: an endpoint refuses for one reason more, and means more at each call.)
 pub trait Endpoint: Copy {
     type Request: Copy;
 

@@ -13,7 +13,7 @@ use service::refusal::{Invalid, ServiceRefusal};
 // The most answers that a pattern has.
 const LONGEST: usize = 32;
 
-// Two bits for each answer, the first in the lowest.
+// Two bits for each answer, the first in the lowest. (The clause says the number that `LONGEST` is, for its reader.)
 fn pack(pattern: &[Answer]) -> u64
     requires { length pattern.now ≤ 32 }
     ensures { result ≡ packed pattern.now }
@@ -62,7 +62,7 @@ impl Service for Patterned {
 
     fn poll_ready(&mut self, at: u64) -> Readiness<u8> {
         let place = self.next % 32;
-        // two bits of the packed answers
+        // two bits of the packed answers, of which 64 bits hold 32: that they are packed is a rule of the product
         let answer = match (self.answers >> (2 * place)) % 4 {
             0 => Readiness::Pending,
             1 => Readiness::Ready,
