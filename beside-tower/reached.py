@@ -5,7 +5,8 @@
 
 In a copy of the repository in a temporary folder, a trap is put into each branch in turn, and `rt try` runs the program, unproved, on its
 stored runs. Where it ends well, the branch was not reached. Prints each branch with what came out, and a count.
-A branch takes about half a minute. Without FILE the files are those of the balancer, the cache and the docket.
+A branch takes about half a minute. Without FILE the files are those of the balancer, the cache and the docket, and the lists
+below them. At a `?` the branch is the one that goes on.
 """
 
 import pathlib
@@ -20,8 +21,9 @@ COPY = pathlib.Path(tempfile.mkdtemp(prefix="reached-")) / "repository"
 FILES = [
     *(f"crates/balance/src/{name}.rt" for name in ("feed", "search", "poll", "call", "completion")),
     *(f"crates/ready_cache/src/{name}.rt" for name in ("change", "pass", "serve")),
-    "crates/entries/src/lib.rt",
+    *(f"crates/entries/src/{name}.rt" for name in ("lib", "position")),
     "crates/docket/src/change.rt",
+    "crates/lists/src/lib.rt",
 ]
 TRAP = "if 1 < 2 { unreachable!(); }"
 # The status of `rt try` where the program comes to a fault, as a trap is.
