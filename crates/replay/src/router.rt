@@ -2,16 +2,13 @@
 use crate::answer::{Answer, List};
 use crate::kinds::Worker;
 use crate::run::{CachePick, Chosen, Pick, Run};
-use balance::balance::Balance;
 use balance_model::answer::CallError;
 use balance_model::pick;
 use cache_model::entry::Entry;
 use cache_model::error::{CallRefusal, Failed};
 use discover::Discover;
-use docket::docket::Docket;
 use keys::name::Name;
 use memory::Memory;
-use ready_cache::cache::ReadyCache;
 use rng::Rng;
 use runs::router::Router;
 use service::Endpoint;
@@ -30,18 +27,19 @@ where
     D::Service: Worker,
     R: Rng,
 {
-    // A new balancer, cache and docket, in this memory. (Three constructors, as in `run`: a function over them would take their eight parameters.)
+    // A new router, in this memory.
     pub fn new(run: &Run, feed: D, words: R, memory: &'a mut Memory<Name, D::Service>) -> Self {
         Replayed {
-            router: Router {
-                balance: Balance::from_rng(feed, words, run.budget),
-                cache: ReadyCache::new(
-                    memory.ready.as_mut_slice(),
-                    memory.pending.as_mut_slice(),
-                    run.first_serial,
-                ),
-                docket: Docket::new(memory.records.as_mut_slice(), run.first_ticket),
-            },
+            router: Router::new(
+                memory.ready.as_mut_slice(),
+                memory.pending.as_mut_slice(),
+                memory.records.as_mut_slice(),
+                feed,
+                words,
+                run.budget,
+                run.first_serial,
+                run.first_ticket,
+            ),
         }
     }
 

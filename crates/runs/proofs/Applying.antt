@@ -1,6 +1,7 @@
 -- One pick more.
-use Rattle.std.proofs.Common.{◌≡◌, ℕ, ◌+◌, ◌<◌, ◌≤◌, List, [], ◌∷◌, ◌++◌, length, get_or, take, sym, refl, ap, ◌∙◌, subst}
+use Rattle.std.proofs.Common.{◌≡◌, ℕ, ◌+◌, ◌<◌, ◌≤◌, List, [], ◌∷◌, ◌++◌, length, get_or, take, IfOk, Result, sym, refl, ap, ◌∙◌, subst}
 use Rattle.std.proofs.lemmas.List.{take_more, take_all}
+use Rattle.std.proofs.lemmas.Result.{IfOk-weaker}
 use Rattle.balance_model.specs.declared.pick.Pick.{Pick}
 use Rattle.balance_model.specs.declared.pick.Answer.{Answer}
 use Rattle.balance_model.specs.Meanings.{Meanings}
@@ -40,10 +41,15 @@ pub with_items : {K S A E D F R : Type 0} (xs ys : List (Answer K A F)) (st : St
 with_items xs ys st run e a = record { answers = e ∙ a.answers; state = a.state }
 
 -- what is given back is what the run answered and left
-pub ran_as : {K S Q A E W D F R : Type 0} (m : Meanings K S Q A E W D F R) (making : Making D R) (picks : List (Pick Q)) (x : Ran K S A D F R) (answers : List (Answer K A F)) (start st : State K S D R) →
+ran_as : {K S Q A E W D F R : Type 0} (m : Meanings K S Q A E W D F R) (making : Making D R) (picks : List (Pick Q)) (x : Ran K S A D F R) (answers : List (Answer K A F)) (start st : State K S D R) →
     start ≡ newly_made making → Applied answers st (apply_all m (from_state start) picks) → Closing x answers st → RanAs x (whole_run m making picks)
 ran_as {K} {S} {A = A} {E = E} {D = D} {F = F} {R = R} m making picks x answers start st new a k =
     let run : Run K S A E D F R = apply_all m (from_state start) picks in
     let same : run ≡ whole_run m making picks = ap (λ (s : State K S D R). apply_all m (from_state s) picks) new in
     let given : Closing x (answers_of run.history) st = subst (λ (xs : List (Answer K A F)). Closing x xs st) a.answers k in
     subst (RanAs x) same (subst (Closing x (answers_of run.history)) a.state given)
+
+-- the same where there was memory for it
+pub run_gives : {K S Q A E W D F R : Type 0} {X : Type 0} (m : Meanings K S Q A E W D F R) (made : Making D R) (picks : List (Pick Q)) (r : Result (Ran K S A D F R) X) (answers : List (Answer K A F)) (start st : State K S D R) →
+    start ≡ newly_made made → Applied answers st (apply_all m (from_state start) picks) → IfOk r (λ x. Closing x answers st) → IfOk r (λ x. RanAs x (whole_run m made picks))
+run_gives m made picks r answers start st new a k = IfOk-weaker r _ _ (λ x c. ran_as m made picks x answers start st new a c) k

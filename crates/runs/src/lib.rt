@@ -9,20 +9,17 @@ ghost use Rattle.runs.specs.Runs.{making, whole_run, RanAs};
 pub mod ran;
 pub mod router;
 
-use balance::balance::Balance;
 use balance_model::docket_record::DocketRecord;
 use balance_model::pick::Pick;
 use cache_model::entry::Entry;
 use discover::Discover;
-use docket::docket::Docket;
 use ran::Ran;
-use ready_cache::cache::ReadyCache;
 use rng::Rng;
 use router::Router;
 use service::Endpoint;
 use std::alloc::{AllocError, Global};
 
-// Makes a new balancer, cache and docket, applies the picks in order, and gives back every answer and how the three stand then. (Three slices are lent, whoever owns them: a struct that owns its memory would ask for more. The three numbers stand by themselves: a struct of them would be made for this one call.)
+// Makes a new balancer, cache and docket, applies the picks in order, and gives back every answer and how the three stand then. (Three slices are lent, whoever owns them: a struct that owns its memory would ask for more. The three numbers stand by themselves: a struct of them would be made for a call alone.)
 //
 // The clauses below hold of every run, whatever the kinds of key, worker, weight, feed and words, and whatever is picked; all but the first are parts of `promise`:
 // - answers: every answer, and both lists and the docket at the close, are those of the model's steps, one after the other
@@ -34,6 +31,7 @@ use std::alloc::{AllocError, Global};
 // - counts: a held worker's count is what it brought, plus the sent requests that reached it, less those of them completed
 // - words: the draws took the words that the source gave, two each and no other
 // - shares: in each draw among two or more, each worker has its share of the remainder pairs
+#[tactic(auto, using(crate::proofs::Applying::run_gives))]
 pub fn run<D: Discover, R: Rng>(
     heap: Global,
     ready: &mut [Entry<D::Key, D::Service>],
@@ -53,11 +51,16 @@ where
     ensures answers { let made = making (length ready.old) (length pending.old) (length records.old) feed words budget first_serial first_ticket in IfOk result (λ x. RanAs x (whole_run (kinds D.Key.sameness D.Service.means D.Service.Metric.order D.feeds R.source) made picks.now)) }
     ensures promise { let m = kinds D.Key.sameness D.Service.means D.Service.Metric.order D.feeds R.source in let made = making (length ready.old) (length pending.old) (length records.old) feed words budget first_serial first_ticket in Promise m made (whole_run m made picks.now) }
 {
-    let mut router = Router {
-        balance: Balance::from_rng(feed, words, budget),
-        cache: ReadyCache::new(ready, pending, first_serial),
-        docket: Docket::new(records, first_ticket),
-    };
+    let mut router = Router::new(
+        ready,
+        pending,
+        records,
+        feed,
+        words,
+        budget,
+        first_serial,
+        first_ticket,
+    );
     let answers = router.apply_all(heap, picks)?;
     router.closing(heap, answers)
 }

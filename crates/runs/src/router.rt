@@ -1,13 +1,16 @@
 // What a run works on, step by step. (In the clauses `kinds ..` names the meanings of five bounds, as lib.rt says.)
-ghost use Rattle.std.specs.Prelude.{◌≡◌, IfOk};
+ghost use Rattle.std.specs.Prelude.{◌≡◌, length, IfOk};
+ghost use Rattle.balance_model.specs.Balance.{newly_made};
 ghost use Rattle.balance_model.specs.History.{event, after, answer_of, apply_all};
 ghost use Rattle.balance.specs.Steps.{kinds};
-ghost use Rattle.runs.specs.Runs.{state_of, Applied, from_state, Closing};
+ghost use Rattle.runs.specs.Runs.{state_of, making, Applied, from_state, Closing};
 
 use crate::ran::Ran;
 use balance::balance::Balance;
 use balance::completion::complete;
+use balance_model::docket_record::DocketRecord;
 use balance_model::pick::{Answer, Pick};
+use cache_model::entry::Entry;
 use discover::Discover;
 use docket::docket::Docket;
 use ready_cache::cache::ReadyCache;
@@ -27,6 +30,26 @@ impl<'a, D: Discover, R: Rng> Router<'a, D::Key, D::Service, D, R>
 where
     D::Service: Endpoint,
 {
+    // A new balancer, cache and docket in this memory, where nothing was picked yet. (The slices and numbers of `run`, which says why they stand by themselves.)
+    pub fn new(
+        ready: &'a mut [Entry<D::Key, D::Service>],
+        pending: &'a mut [Entry<D::Key, D::Service>],
+        records: &'a mut [DocketRecord],
+        feed: D,
+        words: R,
+        budget: u32,
+        first_serial: u64,
+        first_ticket: u64,
+    ) -> Self
+        ensures { state_of result ≡ newly_made (making (length ready.old) (length pending.old) (length records.old) feed words budget first_serial first_ticket) }
+    {
+        Router {
+            balance: Balance::from_rng(feed, words, budget),
+            cache: ReadyCache::new(ready, pending, first_serial),
+            docket: Docket::new(records, first_ticket),
+        }
+    }
+
     // Applies one pick.
     pub fn step(
         &mut self,
