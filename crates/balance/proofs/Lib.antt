@@ -1,3 +1,4 @@
+mod Left
 mod Reading
 mod Searching
 mod Polling

@@ -5,7 +5,8 @@ use Rattle.cache_model.specs.Cache.{Cache}
 use Rattle.balance_model.specs.declared.answer.PollError.{PollError}
 use Rattle.balance_model.specs.Meanings.{Meanings}
 use Rattle.balance_model.specs.Balance.{Balancer, Fed, Read, read_one, read_feed, pushing_first, stopping}
-use Rattle.balance.specs.Steps.{reading, FedAs, FeedLeft}
+use Rattle.balance.specs.Steps.{reading, FedAs}
+use Rattle.balance.proofs.Left.{FeedLeft}
 
 module _ {K S Q A E W D F R : Type 0} (m : Meanings K S Q A E W D F R) (now n i : ℕ) (before b b' : Balancer D R) (c c' : Cache K S) (whole : Fed K S D F)
     (below : i < n)

@@ -1,150 +1,214 @@
 -- One turn of the search for a ready worker, and one pass over pending.
-use Rattle.std.proofs.Common.{◌≡◌, ℕ, ◌+◌, ◌<◌, ◌≤◌, Bool, true, false, cond, eqb, ◌⊎◌, [], length, is_some, Some, None, Ok, Err, Option, Result, sym, refl, ap, ◌∙◌, subst, inl, inr, arith}
-use Rattle.std.proofs.lemmas.Bool.{eqb-false, lt-ltb, le-ltb, cases_lt}
+use Rattle.std.proofs.Common.{◌≡◌, ℕ, zero, suc, ◌+◌, ◌<◌, ◌≤◌, Bool, true, false, eqb, ltb, List, [], ◌∷◌, length, IfSome, IfNone, Some, None, Ok, Err, Option, Result, sym, refl, ap, ◌∙◌, subst, arith}
+use Rattle.std.specs.Result.{result_unwrap_or}
+use Rattle.std.proofs.lemmas.Bool.{eqb-true, eqb-false, lt-ltb, ltb-true, ltb-false}
+use Rattle.model.specs.Options.{by_some}
 use Rattle.model.proofs.Lists.{at_past}
+use Rattle.model.proofs.Cases.{cond_case}
 use Rattle.cache_model.specs.declared.error.Failed.{Failed}
 use Rattle.service.specs.declared.poll.Poll.{Poll}
 use Rattle.cache_model.specs.declared.error.PendingError.{PendingError}
 use Rattle.cache_model.specs.declared.error.PendingError.TheVariants as pending
 use Rattle.cache_model.specs.Answers.{by_check}
 use Rattle.cache_model.specs.Cache.{Cache, held, check, poll_pending}
+use Rattle.cache_model.proofs.Cases.{check_case}
 use Rattle.cache_model.proofs.Shrinks.{check_falls, check_held, poll_pending_falls}
 use Rattle.service.specs.Meaning.{Sameness, Endpoints}
 use Rattle.balance_model.specs.Meanings.{Meanings}
 use Rattle.balance_model.specs.Draw.{Drawn, draw}
-use Rattle.balance_model.specs.Balance.{Balancer, Sought, after_these, try, seek_all, select, Settled, settle_all}
+use Rattle.balance_model.specs.Balance.{Balancer, Sought, seek_all, select, serial_at, PollOutcome, Settled, settle_all}
 use Rattle.balance_model.proofs.Loops.{seek_some, draw_within, draw_pending, settle_lost}
-use Rattle.balance.specs.Steps.{drawn_place, with_words, check_selected, lost_by, loses_one, SearchLeft, SettleLeft, unsure}
+use Rattle.balance.specs.Steps.{drawn_place, selecting, with_words, Candidate, candidate, loses_one}
+use Rattle.balance.proofs.Left.{PollLeft, SettleLeft}
 
-module _ {K S Q A E W D F R : Type 0} (m : Meanings K S Q A E W D F R) (now : ℕ) (selected : Option ℕ) (c c₁ c₂ : Cache K S) (whole : Sought K S E R) (lost first gone : ℕ) (b b₁ before : Balancer D R)
-    (left : SearchLeft (select m now selected c b.words) whole lost first c b before)
-    (asked : Some gone ≡ lost_by (check_selected m.keys m.endpoints now c selected).answer)
-    (left_by_check : c₁ ≡ (check_selected m.keys m.endpoints now c selected).after)
-    (drawn_words : b₁ ≡ with_words b (draw m.endpoints m.weights now m.words c₁ b.words).words)
-    (drawn_cache : c₂ ≡ (draw m.endpoints m.weights now m.words c₁ b.words).cache)
-  where
-    -- the worker asked was not ready: the search goes on over what the check left
-    record Missed (x y : Sought K S E R) : Type 0 where
-      place : x.place ≡ y.place
-      cache : x.cache ≡ y.cache
-      words : x.words ≡ y.words
-      count : x.lost ≡ gone + y.lost
+-- two searches come to the same place, cache and words, and the first has lost `gone` more
+pub record Leaves {K S E R : Type 0} (x y : Sought K S E R) (gone : ℕ) : Type 0 where
+  pub place : x.place ≡ y.place
+  pub cache : x.cache ≡ y.cache
+  pub words : x.words ≡ y.words
+  pub count : x.lost ≡ gone + y.lost
 
-    missed : Missed (select m now selected c b.words) (seek_all m now c₁ b.words)
-    missed = subst (λ (x : Cache K S). Missed (select m now selected c b.words) (seek_all m now x b.words)) (sym left_by_check) (by_selected selected asked)
-      where
-        by_answer : (i : ℕ) (v : Result Bool (Failed K E)) → Some gone ≡ lost_by v →
-            let k = check m.keys m.endpoints now c i in
-            Missed (by_check v (record { place = Some i; cache = k.after; words = b.words; lost = 0; asked = k.asked; draws = [] }) (after_these k.asked [] 0 (seek_all m now k.after b.words)) (after_these k.asked [] 1 (seek_all m now k.after b.words))) (seek_all m now k.after b.words)
-        by_answer i (Ok true) e = cc
-        by_answer i (Ok false) e = record { place = refl; cache = refl; words = refl; count = let z : gone ≡ 0 = cc in omega arith }
-        by_answer i (Err x) e = record { place = refl; cache = refl; words = refl; count = let z : gone ≡ 1 = cc in omega arith }
+leaves_on : {K S E R : Type 0} (x y z : Sought K S E R) (gone : ℕ) → Leaves x y gone → Leaves y z 0 → Leaves x z gone
+leaves_on x y z gone a b = record { place = a.place ∙ b.place; cache = a.cache ∙ b.cache; words = a.words ∙ b.words; count = let p = a.count in let q = b.count in omega arith }
 
-        by_selected : (o : Option ℕ) → Some gone ≡ lost_by (check_selected m.keys m.endpoints now c o).answer → Missed (select m now o c b.words) (seek_all m now (check_selected m.keys m.endpoints now c o).after b.words)
-        by_selected None e = record { place = refl; cache = refl; words = refl; count = let z : gone ≡ 0 = cc in omega arith }
-        by_selected (Some i) e = by_answer i (check m.keys m.endpoints now c i).answer e
+-- a poll comes to what a search leaves, for a balancer with this feed and this budget
+pub record ComesTo {K S E D F R : Type 0} (p : PollOutcome K S E D F R) (x : Sought K S E R) (lost : ℕ) (feed : D) (budget : ℕ) : Type 0 where
+  pub answer : p.answer ≡ Ok (record { worker = serial_at x.cache x.place; lost = lost + x.lost })
+  pub balancer : p.balancer ≡ record { feed = feed; words = x.words; budget = budget; selected = x.place; fresh = by_some x.place false (λ _. true) }
+  pub cache : p.cache ≡ x.cache
 
-    -- nobody is lost but the one that failed
-    held_after : held c₁ + gone ≤ held c
-    held_after = subst (λ (x : Cache K S). held x + gone ≤ held c) (sym left_by_check) (by_selected selected asked)
-      where
-        by_selected : (o : Option ℕ) → Some gone ≡ lost_by (check_selected m.keys m.endpoints now c o).answer → held (check_selected m.keys m.endpoints now c o).after + gone ≤ held c
-        by_selected None e = let z : gone ≡ 0 = cc in omega arith
-        by_selected (Some i) e = go (check m.keys m.endpoints now c i).answer e (check_held m.keys m.endpoints now c i)
-          where
-            go : (v : Result Bool (Failed K E)) → Some gone ≡ lost_by v → held (check m.keys m.endpoints now c i).after + by_check v 0 0 1 ≤ held c → held (check m.keys m.endpoints now c i).after + gone ≤ held c
-            go (Ok true) e h = cc
-            go (Ok false) e h = let z : gone ≡ 0 = cc in omega arith
-            go (Err x) e h = let z : gone ≡ 1 = cc in omega arith
+pub comes_on : {K S E D F R : Type 0} (p : PollOutcome K S E D F R) (x y : Sought K S E R) (lost gone : ℕ) (feed : D) (budget : ℕ) → Leaves x y gone → ComesTo p x lost feed budget → ComesTo p y (lost + gone) feed budget
+comes_on {D = D} p x y lost gone feed budget a left =
+    let count = a.count in
+    let sum : lost + x.lost ≡ lost + gone + y.lost = omega arith in
+    record {
+      answer = left.answer
+          ∙ ap (λ n. Ok (record { worker = serial_at x.cache x.place; lost = n })) sum
+          ∙ ap (λ c. Ok (record { worker = serial_at c x.place; lost = lost + gone + y.lost })) a.cache
+          ∙ ap (λ o. Ok (record { worker = serial_at y.cache o; lost = lost + gone + y.lost })) a.place;
+      balancer = left.balancer
+          ∙ ap (λ r. record { feed = feed; words = r; budget = budget; selected = x.place; fresh = by_some x.place false (λ _. true) }) a.words
+          ∙ ap (λ o. record { feed = feed; words = y.words; budget = budget; selected = o; fresh = by_some o false (λ _. true) }) a.place;
+      cache = left.cache ∙ a.cache;
+    }
 
+-- who is told not to be ready did not answer that it is
+pub not_ready : {X : Type 0} (v w : Result Bool X) (told : Bool) → told ≡ result_unwrap_or v false → told ≡ false → v ≡ w → w ≡ Ok true → ⊥
+not_ready v w told said denied is ready =
+    let k : told ≡ true = said ∙ ap (λ x. result_unwrap_or x false) (is ∙ ready) in
+    cc
+
+empty : {A : Type 0} (xs : List A) → length xs ≡ 0 → xs ≡ []
+empty [] e = refl
+empty (x ∷ xs) e = absurd (omega arith)
+
+module _ {K S Q A E W D F R : Type 0} (m : Meanings K S Q A E W D F R) (now : ℕ) where
+  -- a search goes on from a place that is among the ready, or is none where nobody is
+  pub record GoesOn (whole : Sought K S E R) (held_before : ℕ) (place : Option ℕ) (c : Cache K S) (r : R) : Type 0 where
+    pub leaves : Leaves whole (select m now place c r) 0
+    pub among : IfSome place (λ i. i < length c.ready)
+    pub nobody : IfNone place (c.ready ≡ [])
+    pub same : held c ≡ held_before
+
+  -- ---- a draw
+
+  module _ (c : Cache K S) (r : R) where
     abbrev d : Drawn K S R
-    d = draw m.endpoints m.weights now m.words c₁ b.words
+    d = draw m.endpoints m.weights now m.words c r
 
-    same_balancer : b₁ ≡ with_words before b₁.words
-    same_balancer = drawn_words ∙ ap (λ (x : Balancer D R). with_words x d.words) left.same ∙ ap (λ (r : R). with_words before r) (sym (ap (λ (x : Balancer D R). x.words) drawn_words))
+    few : length c.ready < 2 → d ≡ record { place = 0; cache = c; words = r; draws = [] }
+    few h = let e : ltb (length c.ready) 2 ≡ true = lt-ltb (length c.ready) 2 h in rw e refl
 
-    -- ---- another is drawn
+    nobody_drawn : length c.ready ≡ 0 → GoesOn (seek_all m now c r) (held c) None d.cache d.words
+    nobody_drawn n =
+        subst (λ (x : Drawn K S R). GoesOn (seek_all m now c r) (held c) None x.cache x.words) (sym (few (omega arith))) (record {
+          leaves = record { place = refl; cache = refl; words = refl; count = omega arith };
+          among = tt;
+          nobody = empty c.ready n;
+          same = refl;
+        })
 
-    module _ (place : ℕ) (some : Some place ≡ drawn_place c₁ d) where
-      drawn : (t : Bool) → eqb (length c₁.ready) 0 ≡ t → Some place ≡ cond t None (Some d.place) → (0 < length c₁.ready) × (place ≡ d.place)
-      drawn true e n = cc
-      drawn false e n = let f = eqb-false (length c₁.ready) 0 e in (positive (length c₁.ready) f, cc)
-        where
-          positive : (n : ℕ) → (n ≡ 0 → ⊥) → 0 < n
-          positive n f = go (cases_lt 0 n)
-            where
-              go : (0 < n) ⊎ (n ≤ 0) → 0 < n
-              go (inl h) = h
-              go (inr h) = absurd (f (omega arith))
+    one_drawn : 0 < length c.ready → GoesOn (seek_all m now c r) (held c) (Some d.place) d.cache d.words
+    one_drawn n =
+        let step = seek_some m now c r n in
+        let w = draw_within m now c r in
+        let same = w.same in
+        let below = w.below n in
+        let p = draw_pending m now c r in
+        record {
+          leaves = record {
+            place = ap (λ (s : Sought K S E R). s.place) step;
+            cache = ap (λ (s : Sought K S E R). s.cache) step;
+            words = ap (λ (s : Sought K S E R). s.words) step;
+            count = ap (λ (s : Sought K S E R). s.lost) step;
+          };
+          among = omega arith;
+          nobody = tt;
+          same = omega arith;
+        }
 
-      found : (0 < length c₁.ready) × (place ≡ d.place)
-      found = drawn (eqb (length c₁.ready) 0) refl some
+    pub drawn : GoesOn (seek_all m now c r) (held c) (drawn_place c d) d.cache d.words
+    drawn =
+        cond_case (λ (o : Option ℕ). GoesOn (seek_all m now c r) (held c) o d.cache d.words) (eqb (length c.ready) 0) None (Some d.place)
+        (λ e. nobody_drawn (eqb-true (length c.ready) 0 e))
+        (λ e. let f = eqb-false (length c.ready) 0 e in one_drawn (positive (length c.ready) f))
+      where
+        positive : (n : ℕ) → (n ≡ 0 → ⊥) → 0 < n
+        positive zero f = absurd (f refl)
+        positive (suc n) f = omega arith
 
-      same_length : length c₂.ready ≡ length c₁.ready
-      same_length = ap (λ (x : Cache K S). length x.ready) drawn_cache ∙ (draw_within m now c₁ b.words).same
+    -- ---- where a search begins
 
-      pub search_goes_on : SearchLeft (select m now (Some place) c₂ b₁.words) whole (lost + gone) first c₂ b₁ before
-      search_goes_on =
-          let step = seek_some m now c₁ b.words found.0 in
-          let k = missed in
-          let words : b₁.words ≡ d.words = ap (λ (x : Balancer D R). x.words) drawn_words in
-          let same : select m now (Some place) c₂ b₁.words ≡ try m now (seek_all m now) d.place d.cache d.words =
-          ap (λ (i : ℕ). try m now (seek_all m now) i c₂ b₁.words) found.1
-          ∙ ap (λ (x : Cache K S). try m now (seek_all m now) d.place x b₁.words) drawn_cache
-          ∙ ap (λ (r : R). try m now (seek_all m now) d.place d.cache r) words in
-          let count = left.count in
-          let more = k.count in
-          let next : (seek_all m now c₁ b.words).lost ≡ 0 + (try m now (seek_all m now) d.place d.cache d.words).lost = ap (λ (s : Sought K S E R). s.lost) step in
-          let these : (select m now (Some place) c₂ b₁.words).lost ≡ (try m now (seek_all m now) d.place d.cache d.words).lost = ap (λ (s : Sought K S E R). s.lost) same in
-          let r = same_length in
-          let p : length c₂.pending ≡ length c₁.pending = ap (λ (x : Cache K S). length x.pending) drawn_cache ∙ draw_pending m now c₁ b.words in
-          let h = held_after in
-          let f = left.fits in
-          record {
-            place = ap (λ (s : Sought K S E R). s.place) same ∙ sym (ap (λ (s : Sought K S E R). s.place) step) ∙ sym k.place ∙ left.place;
-            cache = ap (λ (s : Sought K S E R). s.cache) same ∙ sym (ap (λ (s : Sought K S E R). s.cache) step) ∙ sym k.cache ∙ left.cache;
-            words = ap (λ (s : Sought K S E R). s.words) same ∙ sym (ap (λ (s : Sought K S E R). s.words) step) ∙ sym k.words ∙ left.words;
-            count = omega arith;
-            fits = omega arith;
-            same = same_balancer;
-          }
+    unlisted : (o : Option ℕ) → by_some o false (λ i. ltb i (length c.ready)) ≡ false → Leaves (select m now o c r) (seek_all m now c r) 0
+    unlisted None e = record { place = refl; cache = refl; words = refl; count = omega arith }
+    unlisted (Some i) e =
+        let past : length c.ready ≤ i = ltb-false i (length c.ready) e in
+        rw (at_past c.ready i past) (record { place = refl; cache = refl; words = refl; count = omega arith })
 
-      -- the ready list gets shorter, or a place that was none becomes one
-      pub search_falls : length c₂.ready + unsure (Some place) (length c₂.ready) < length c.ready + unsure selected (length c.ready)
-      search_falls =
-          let same = same_length in
-          let below = (draw_within m now c₁ b.words).below found.0 in
-          let at_place = found.1 in
-          let sure : unsure (Some place) (length c₂.ready) ≡ 0 = ap (λ (t : Bool). cond t 0 1) (lt-ltb place (length c₂.ready) (omega arith)) in
-          let h = before_check selected asked (ap (λ (x : Cache K S). length x.ready) left_by_check) in
+    listed : (o : Option ℕ) → by_some o false (λ i. ltb i (length c.ready)) ≡ true → GoesOn (select m now o c r) (held c) o c r
+    listed None e = cc
+    listed (Some i) e = record {
+      leaves = record { place = refl; cache = refl; words = refl; count = omega arith };
+      among = ltb-true i (length c.ready) e;
+      nobody = tt;
+      same = refl;
+    }
+
+    pub begins : (selected : Option ℕ) → let x = candidate m now selected c r in GoesOn (select m now selected c r) (held c) x.place x.cache x.words
+    begins selected =
+        cond_case (λ (x : Candidate K S R). GoesOn (select m now selected c r) (held c) x.place x.cache x.words)
+        (by_some selected false (λ i. ltb i (length c.ready)))
+        (record { place = selected; cache = c; words = r })
+        (record { place = drawn_place c d; cache = d.cache; words = d.words })
+        (λ e. listed selected e)
+        (λ e. record {
+          leaves = leaves_on (select m now selected c r) (seek_all m now c r) (select m now (drawn_place c d) d.cache d.words) 0 (unlisted selected e) drawn.leaves;
+          among = drawn.among;
+          nobody = drawn.nobody;
+          same = drawn.same;
+        })
+
+  -- ---- a turn: the place was checked, and its worker is not ready
+
+  module _ (c c₁ c₂ : Cache K S) (i : ℕ) (b : Balancer D R)
+      (chosen : b.selected ≡ Some i)
+      (unready : (check m.keys m.endpoints now c i).answer ≡ Ok true → ⊥)
+      (asked : c₁ ≡ (check m.keys m.endpoints now c i).after)
+      (drawn_cache : c₂ ≡ (draw m.endpoints m.weights now m.words c₁ b.words).cache)
+    where
+      -- the worker that was asked left the ready
+      pub search_falls : IfSome b.selected (λ k. k < length c.ready) → length c₂.ready < length c.ready
+      search_falls among =
+          let h : i < length c.ready = subst (λ (o : Option ℕ). IfSome o (λ k. k < length c.ready)) chosen among in
+          let f = check_falls m.keys m.endpoints now c i h unready in
+          let a : length c₁.ready ≡ length (check m.keys m.endpoints now c i).after.ready = ap (λ (x : Cache K S). length x.ready) asked in
+          let w = (draw_within m now c₁ b.words).same in
+          let e : length c₂.ready ≡ length (draw m.endpoints m.weights now m.words c₁ b.words).cache.ready = ap (λ (x : Cache K S). length x.ready) drawn_cache in
           omega arith
-        where
-          before_check : (o : Option ℕ) → Some gone ≡ lost_by (check_selected m.keys m.endpoints now c o).answer → length c₁.ready ≡ length (check_selected m.keys m.endpoints now c o).after.ready → length c₁.ready < length c.ready + unsure o (length c.ready)
-          before_check None e l = omega arith
-          before_check (Some i) e l = go (cases_lt i (length c.ready))
-            where
-              not_yes : (v : Result Bool (Failed K E)) → Some gone ≡ lost_by v → v ≡ Ok true → ⊥
-              not_yes (Ok true) e q = cc
-              not_yes (Ok false) e q = cc
-              not_yes (Err x) e q = cc
 
-              go : (i < length c.ready) ⊎ (length c.ready ≤ i) → length c₁.ready < length c.ready + unsure (Some i) (length c.ready)
-              go (inl h) = let f = check_falls m.keys m.endpoints now c i h (not_yes (check m.keys m.endpoints now c i).answer e) in omega arith
-              go (inr h) =
-                  let u : unsure (Some i) (length c.ready) ≡ 1 = ap (λ (t : Bool). cond t 0 1) (le-ltb i (length c.ready) h) in
-                  let same : (check m.keys m.endpoints now c i).after ≡ c = rw (at_past c.ready i h) refl in
-                  let s : length (check m.keys m.endpoints now c i).after.ready ≡ length c.ready = ap (λ (x : Cache K S). length x.ready) same in
-                  omega arith
+      abbrev another : Drawn K S R
+      another = draw m.endpoints m.weights now m.words c₁ b.words
 
-    -- ---- by what the draw answers
+      abbrev gone : ℕ
+      gone = by_check (check m.keys m.endpoints now c i).answer 0 0 1
 
-    pub again_at : (o : Option ℕ) → o ≡ drawn_place c₁ d → is_some o ≡ true → SearchLeft (select m now o c₂ b₁.words) whole (lost + gone) first c₂ b₁ before
-    again_at None e t = cc
-    again_at (Some i) e t = search_goes_on i e
+      missed : Leaves (select m now (Some i) c b.words) (seek_all m now c₁ b.words) gone
+      missed =
+          let k = check m.keys m.endpoints now c i in
+          let count : (v : Result Bool (Failed K E)) → k.answer ≡ v → gone ≡ by_check v 0 0 1 = λ v e. ap (λ (x : Result Bool (Failed K E)). by_check x 0 0 1) e in
+          subst (λ (x : Cache K S). Leaves (select m now (Some i) c b.words) (seek_all m now x b.words) gone) (sym asked)
+          (check_case (λ (s : Sought K S E R). Leaves s (seek_all m now k.after b.words) gone) k.answer _ _ _
+          (λ e. absurd (unready e))
+          (λ e. let z = count (Ok false) e in record { place = refl; cache = refl; words = refl; count = omega arith })
+          (λ x e. let z = count (Err x) e in record { place = refl; cache = refl; words = refl; count = omega arith }))
 
-    pub falls_at : (o : Option ℕ) → o ≡ drawn_place c₁ d → is_some o ≡ true → length c₂.ready + unsure o (length c₂.ready) < length c.ready + unsure selected (length c.ready)
-    falls_at None e t = cc
-    falls_at (Some i) e t = search_falls i e
+      -- nobody is lost but the one that failed
+      held_after : held c₁ + gone ≤ held c
+      held_after = subst (λ (x : Cache K S). held x + gone ≤ held c) (sym asked) (check_held m.keys m.endpoints now c i)
+
+      abbrev next : Balancer D R
+      next = selecting (with_words b another.words) (drawn_place c₁ another)
+
+      go_on : (p : PollOutcome K S E D F R) (lost : ℕ) → PollLeft p (select m now b.selected c b.words) lost b c → PollLeft p (select m now (drawn_place c₁ another) another.cache another.words) (lost + gone) next another.cache
+      go_on p lost left =
+          let x : Sought K S E R = select m now (Some i) c b.words in
+          let y : Sought K S E R = select m now (drawn_place c₁ another) another.cache another.words in
+          let g = drawn c₁ b.words in
+          let k : ComesTo p x lost b.feed b.budget =
+          subst (λ (o : Option ℕ). ComesTo p (select m now o c b.words) lost b.feed b.budget) chosen (record { answer = left.answer; balancer = left.balancer; cache = left.cache }) in
+          let n = comes_on p x y lost gone b.feed b.budget (leaves_on x (seek_all m now c₁ b.words) y gone missed g.leaves) k in
+          let fits = left.fits in
+          let h = held_after in
+          let same = g.same in
+          record { answer = n.answer; balancer = n.balancer; cache = n.cache; stale = left.stale; among = g.among; nobody = g.nobody; fits = omega arith }
+
+      pub search_goes_on : (p : PollOutcome K S E D F R) (lost more : ℕ) (b₂ : Balancer D R) (place : Option ℕ) → PollLeft p (select m now b.selected c b.words) lost b c →
+          more ≡ gone → b₂ ≡ with_words b another.words → place ≡ drawn_place c₁ another → PollLeft p (select m now place c₂ b₂.words) (lost + more) (selecting b₂ place) c₂
+      search_goes_on p lost more b₂ place left counted after found =
+          let is : selecting b₂ place ≡ next = ap (λ (x : Balancer D R). selecting x place) after ∙ ap (λ (o : Option ℕ). selecting (with_words b another.words) o) found in
+          subst (λ (x : Balancer D R). PollLeft p (select m now x.selected c₂ x.words) (lost + more) x c₂) (sym is)
+          (subst (λ (x : Cache K S). PollLeft p (select m now next.selected x next.words) (lost + more) next x) (sym drawn_cache)
+          (subst (λ (n : ℕ). PollLeft p (select m now (drawn_place c₁ another) another.cache another.words) (lost + n) next another.cache) (sym counted) (go_on p lost left)))
 
 -- ---- the passes over pending
 

@@ -1,5 +1,5 @@
 // Sending a request to the worker that the latest poll named. (A balancer owns neither cache nor docket: a call is handed both, and its instant. In the clauses `kinds ..` names the meanings of five bounds, as lib.rt says.)
-ghost use Rattle.std.specs.Prelude.{◌≡◌};
+ghost use Rattle.std.specs.Prelude.{◌≡◌, OnErr};
 ghost use Rattle.balance_model.specs.Balance.{call, call_answer};
 ghost use Rattle.balance.specs.Steps.{kinds, state};
 
@@ -16,7 +16,9 @@ impl<D: Discover, R: Rng> Balance<D, R>
 where
     D::Service: Endpoint,
 {
-    // Hands a request to the worker that the latest poll named, and answers its ticket and the response.
+    /// Hands a request to the worker that the latest poll named, at an instant in nanoseconds, and answers its ticket
+    /// and the response. The worker then has to be asked again: selection and fresh mark are cleared. A refusal
+    /// says why the request was not sent, and changes nothing.
     pub fn call(
         &mut self,
         cache: &mut ReadyCache<'_, D::Key, D::Service>,
@@ -26,6 +28,9 @@ where
     ) -> Result<(u64, <D::Service as Endpoint>::Response), CallError>
         ensures answer { result ≡ call_answer (call (kinds D.Key.sameness D.Service.means D.Service.Metric.order D.feeds R.source) at (state self.old cache.old docket.old) request).answer }
         ensures after { state self.new cache.new docket.new ≡ (call (kinds D.Key.sameness D.Service.means D.Service.Metric.order D.feeds R.source) at (state self.old cache.old docket.old) request).after }
+        ensures same_balancer { OnErr result (self.new ≡ self.old) }
+        ensures same_cache { OnErr result (cache.new ≡ cache.old) }
+        ensures same_docket { OnErr result (docket.new ≡ docket.old) }
     {
         if !self.fresh {
             return Err(CallError::NotFresh);

@@ -1,5 +1,5 @@
 // The end of a request (tower: load/completion). It is handed the cache and the docket, as a call is.
-ghost use Rattle.std.specs.Prelude.{◌≡◌};
+ghost use Rattle.std.specs.Prelude.{◌≡◌, OnErr};
 ghost use Rattle.balance_model.specs.Balance.{complete};
 
 use balance_model::answer::{CompleteError, Completion};
@@ -7,7 +7,9 @@ use docket::docket::Docket;
 use ready_cache::cache::ReadyCache;
 use service::{Endpoint, Key};
 
-// Takes the ticket's record from the docket and tells the worker that its request is over, if the worker is still held.
+/// Takes the ticket's record from the docket and tells the worker that its request is over, at an instant in nanoseconds.
+/// Answers whether the worker is still held. A ticket without a record is refused, and then nothing changes.
+#[tactic(auto, using(balance_model::proofs::Dockets::complete_unknown, balance_model::proofs::Dockets::removed_none))]
 pub fn complete<K: Key, S: Endpoint>(
     cache: &mut ReadyCache<'_, K, S>,
     docket: &mut Docket<'_>,
@@ -17,6 +19,8 @@ pub fn complete<K: Key, S: Endpoint>(
     ensures answer { result ≡ (complete S.means at cache.old docket.old ticket).answer }
     ensures cache { cache.new ≡ (complete S.means at cache.old docket.old ticket).cache }
     ensures docket { docket.new ≡ (complete S.means at cache.old docket.old ticket).docket }
+    ensures same_cache { OnErr result (cache.new ≡ cache.old) }
+    ensures same_docket { OnErr result (docket.new ≡ docket.old) }
 {
     let Some(record) = docket.remove(ticket) else {
         return Err(CompleteError::UnknownTicket);

@@ -1,13 +1,14 @@
 // The search for a ready worker. (A balancer owns no cache: each step is handed it, with the instant of the poll. In the clauses `kinds ..` names the meanings of five bounds, as lib.rt says.)
-ghost use Rattle.std.specs.Prelude.{◌≡◌, ◌≤◌};
+ghost use Rattle.std.specs.Prelude.{◌≡◌};
+ghost use Rattle.cache_model.specs.Answers.{by_check};
 ghost use Rattle.cache_model.specs.Cache.{poll_pending};
 ghost use Rattle.balance_model.specs.Draw.{weigh, draw};
-ghost use Rattle.balance_model.specs.Balance.{settle_all, select};
-ghost use Rattle.balance.specs.Steps.{kinds, drawn_place, loses_one, SettledAs, check_selected, lost_by, SoughtAs, with_words};
+ghost use Rattle.balance_model.specs.Balance.{settle_all};
+ghost use Rattle.balance.specs.Steps.{kinds, candidate, drawn_place, loses_one, SettledAs, with_words};
 
 use crate::balance::Balance;
 use balance_model::answer::PollError;
-use cache_model::error::PendingError;
+use cache_model::error::{Failed, PendingError};
 use discover::Discover;
 use ready_cache::MOST;
 use ready_cache::cache::ReadyCache;
@@ -25,7 +26,7 @@ fn loses_one<K: Key, S: Endpoint, F: Copy>(
     match cache.poll_pending(at) {
         Ok(_) => Ok(false),
         Err(PendingError::Failed(_)) => Ok(true),
-        Err(PendingError::NoPlace(key)) => Err(PollError::NoPlace(key)),
+        Err(PendingError::NoPlace(no_place)) => Err(PollError::from(no_place)),
     }
 }
 
@@ -66,22 +67,13 @@ fn lighter<K: Key, S: Endpoint>(
     }
 }
 
-// Asks the selected worker, if there is one, whether it is ready: none where it is, otherwise how many were lost by asking, which is one if it failed. (A number, and no mark, since the caller adds it up.)
-fn ask_selected<K: Key, S: Endpoint>(
-    cache: &mut ReadyCache<'_, K, S>,
-    selected: Option<usize>,
-    at: u64,
-) -> Option<u32>
-    ensures answer { result ≡ lost_by (check_selected K.sameness S.means at cache.old selected).answer }
-    ensures after { cache.new ≡ (check_selected K.sameness S.means at cache.old selected).after }
+// How many workers a check lost: the one asked, if it failed.
+pub(crate) fn lost_by<K: Copy, E: Copy>(checked: Result<bool, Failed<K, E>>) -> u32
+    ensures { result ≡ by_check checked 0 0 1 }
 {
-    let Some(i) = selected else {
-        return Some(0);
-    };
-    match cache.check_ready_index(i, at) {
-        Ok(true) => None,
-        Ok(false) => Some(0),
-        Err(_) => Some(1),
+    match checked {
+        Ok(_) => 0,
+        Err(_) => 1,
     }
 }
 
@@ -90,7 +82,7 @@ where
     D::Service: Endpoint,
 {
     // Draws a ready worker: a single one without a word, and of two or more the lighter of two sampled ones.
-    fn p2c_ready_index(
+    pub(crate) fn p2c_ready_index(
         &mut self,
         cache: &mut ReadyCache<'_, D::Key, D::Service>,
         at: u64,
@@ -109,28 +101,19 @@ where
         }
     }
 
-    // Checks the selected worker and draws others until one is ready or none is left; answers its place, and how many were lost.
-    pub(crate) fn choose(
+    // The place to check first: the selected one if it is among the ready, otherwise one that is drawn.
+    pub(crate) fn candidate(
         &mut self,
         cache: &mut ReadyCache<'_, D::Key, D::Service>,
         at: u64,
-        mut lost: u32,
-    ) -> (Option<usize>, u32)
-        requires { lost ≤ 4096 }
-        ensures { SoughtAs (select (kinds D.Key.sameness D.Service.means D.Service.Metric.order D.feeds R.source) at self.old.selected cache.old self.old.words) lost result self.old self.new cache.new }
+    ) -> Option<usize>
+        ensures answer { result ≡ (candidate (kinds D.Key.sameness D.Service.means D.Service.Metric.order D.feeds R.source) at self.old.selected cache.old self.old.words).place }
+        ensures after { self.new ≡ with_words self.old (candidate (kinds D.Key.sameness D.Service.means D.Service.Metric.order D.feeds R.source) at self.old.selected cache.old self.old.words).words }
+        ensures cache { cache.new ≡ (candidate (kinds D.Key.sameness D.Service.means D.Service.Metric.order D.feeds R.source) at self.old.selected cache.old self.old.words).cache }
     {
-        // each worker that is held is lost at most once, so the count fits (the clause says the number that `MOST` is, for its reader)
-        prove!(cache.len() <= MOST);
-        let mut selected = self.selected;
-        loop {
-            let Some(gone) = ask_selected(cache, selected, at) else {
-                return (selected, lost);
-            };
-            lost += gone;
-            selected = self.p2c_ready_index(cache, at);
-            if selected.is_none() {
-                return (None, lost);
-            }
+        match self.selected {
+            Some(i) if i < cache.ready_len() => Some(i),
+            _ => self.p2c_ready_index(cache, at),
         }
     }
 }

@@ -13,7 +13,7 @@ use Rattle.balance_model.specs.Meanings.{Meanings}
 use Rattle.balance_model.specs.Docket.{Docket}
 use Rattle.balance_model.specs.Balance.{Balancer, Sent}
 use Rattle.balance_model.specs.History.{History, named_by_latest, GrantedInLatest, sent_since, sent_to, is_completed}
-use Rattle.balance_model.specs.Promise.{EachCall, ReachedNamed, NobodyNamed, SixThen, NotThreeOrFour, CountRight, DrawsFair}
+use Rattle.balance_model.specs.Promise.{EachCall, ReachedNamed, NobodyNamed, SixThen, NotThreeOrFour, CountRight, DrawsFair, AlwaysDrawnAsked}
 use Rattle.std.proofs.Common.{◌≡◌, ℕ, ◌<◌, ◌≤◌, true, false, eqb, List, [], Some, Result}
 
 module _ {K S A E F : Type 0} where
@@ -68,3 +68,4 @@ pub record Holds {K S Q A E W D F R : Type 0} (m : Meanings K S Q A E W D F R) (
   pub spent : b.fresh ≡ false → NobodyNamed h
   pub calls : EachCall CallRight h
   pub draws : DrawsFair m.endpoints m.weights h
+  pub drawn : AlwaysDrawnAsked h

@@ -2,6 +2,8 @@ pub mod Cases
 pub mod Fair
 pub mod Search
 pub mod Feed
+pub mod Logs
+pub mod Drawn
 pub mod Naming
 pub mod Holds
 pub mod Polls

@@ -10,11 +10,13 @@ use Rattle.cache_model.specs.Cache.{Cache, Question, Asked, check}
 use Rattle.cache_model.proofs.Cases.{readiness_case, check_case}
 use Rattle.balance_model.specs.Meanings.{Meanings}
 use Rattle.balance_model.specs.Draw.{Draw, Drawn, draw}
-use Rattle.balance_model.specs.Balance.{Sought, after_these, try, seek, seek_all, select}
+use Rattle.balance_model.specs.Balance.{Sought, asks, draws, questions_in, draws_in, after_these, try, seek, seek_all, select}
 use Rattle.balance_model.specs.History.{said_ready}
-use Rattle.balance_model.specs.Promise.{DrawFair}
+use Rattle.balance_model.specs.Promise.{DrawFair, DrawnAsked}
 use Rattle.balance_model.proofs.Fair.{fair}
-use Rattle.std.proofs.Common.{◌≡◌, ℕ, zero, suc, Bool, true, false, ltb, List, [], length, Some, Ok, Err, Option, Result, ap, ◌∙◌, subst}
+use Rattle.balance_model.proofs.Logs.{questions_after_asks, draws_after_asks, drawn_after_asks, questions_of_asks, draws_of_asks, drawn_of_asks, questions_after_draws, draws_after_draws}
+use Rattle.balance_model.proofs.Drawn.{draw_asked}
+use Rattle.std.proofs.Common.{◌≡◌, ℕ, zero, suc, Bool, true, false, ltb, List, [], ◌++◌, length, map, Some, Ok, Err, Option, Result, sym, ap, ◌∙◌, subst}
 use Rattle.std.proofs.lemmas.Bool.{ltb-false}
 use Rattle.cache_model.specs.declared.error.Failed.{Failed}
 
@@ -51,8 +53,9 @@ module _ {K S Q A E W : Type 0} (keys : Sameness K) (ends : Endpoints S Q A E W)
       (λ x _ n. absurd (failed_not_yes n)))
 
 pub record SoughtRight {K S Q A E W R : Type 0} (ends : Endpoints S Q A E W) (weights : Weights W) (now : ℕ) (s : Sought K S E R) : Type 0 where
-  pub found : (i : ℕ) → s.place ≡ Some i → Grants ends now s.cache.ready s.asked i
-  pub draws : Each (DrawFair ends weights now) s.draws
+  pub found : (i : ℕ) → s.place ≡ Some i → Grants ends now s.cache.ready (questions_in s.steps) i
+  pub fair : Each (DrawFair ends weights now) (draws_in s.steps)
+  pub drawn : DrawnAsked s.steps
 
 module _ {K S Q A E W D F R : Type 0} (m : Meanings K S Q A E W D F R) (now : ℕ) where
   abbrev Right : Sought K S E R → Type 0
@@ -64,10 +67,30 @@ module _ {K S Q A E W D F R : Type 0} (m : Meanings K S Q A E W D F R) (now : �
       (λ _. tt)
       (λ e. (fair m.endpoints m.weights now c _ _ (ltb-false (length c.ready) 2 e), tt))
 
-  after_right : (qs : List (Question E)) (ds : List (Draw K S)) (lost : ℕ) (s : Sought K S E R) → Each (DrawFair m.endpoints m.weights now) ds → Right s → Right (after_these qs ds lost s)
-  after_right qs ds lost s d r = record {
-    found = λ i e. let g = r.found i e in record { entry = g.entry; stands = g.stands; last = last_append qs s.asked _ g.last; grant = g.grant };
-    draws = each_append (DrawFair m.endpoints m.weights now) ds s.draws d r.draws;
+  -- questions in front of a search
+  after_asks_right : (qs : List (Question E)) (lost : ℕ) (s : Sought K S E R) → Right s → Right (after_these (map asks qs) lost s)
+  after_asks_right qs lost s r = record {
+    found = λ i e. let g = r.found i e in record {
+      entry = g.entry;
+      stands = g.stands;
+      last = ap last_of (questions_after_asks qs s.steps) ∙ last_append qs (questions_in s.steps) _ g.last;
+      grant = g.grant;
+    };
+    fair = subst (Each (DrawFair m.endpoints m.weights now)) (sym (draws_after_asks qs s.steps)) r.fair;
+    drawn = drawn_after_asks qs s.steps r.drawn;
+  }
+
+  -- draws in front of a search, by which the worker drawn is asked next
+  after_draws_right : (ds : List (Draw K S)) (s : Sought K S E R) → Each (DrawFair m.endpoints m.weights now) ds → DrawnAsked (map draws ds ++ s.steps) → Right s → Right (after_these (map draws ds) 0 s)
+  after_draws_right ds s each asked r = record {
+    found = λ i e. let g = r.found i e in record {
+      entry = g.entry;
+      stands = g.stands;
+      last = ap last_of (questions_after_draws ds s.steps) ∙ g.last;
+      grant = g.grant;
+    };
+    fair = subst (Each (DrawFair m.endpoints m.weights now)) (sym (draws_after_draws ds s.steps)) (each_append (DrawFair m.endpoints m.weights now) ds (draws_in s.steps) each r.fair);
+    drawn = asked;
   }
 
   place_is : (i j : ℕ) → ◌≡◌ {A = Option ℕ} (Some i) (Some j) → i ≡ j
@@ -78,17 +101,20 @@ module _ {K S Q A E W D F R : Type 0} (m : Meanings K S Q A E W D F R) (now : �
       let k = check m.keys m.endpoints now c i in
       check_case Right k.answer _ _ _
       (λ yes_it_is. record {
-        found = λ j e. subst (λ (x : ℕ). Grants m.endpoints now k.after.ready k.asked x) (place_is i j e) (check_grants m.keys m.endpoints now c i yes_it_is);
-        draws = tt;
+        found = λ j e. subst (λ (x : ℕ). Grants m.endpoints now k.after.ready (questions_in {K = K} {S = S} (map asks k.asked)) x) (place_is i j e)
+            (subst (λ (qs : List (Question E)). Grants m.endpoints now k.after.ready qs i) (sym (questions_of_asks K S k.asked)) (check_grants m.keys m.endpoints now c i yes_it_is));
+        fair = subst (Each (DrawFair m.endpoints m.weights now)) (sym (draws_of_asks K S k.asked)) tt;
+        drawn = drawn_of_asks K S k.asked;
       })
-      (λ _. after_right k.asked [] 0 (more k.after r) tt (ih k.after r))
-      (λ x _. after_right k.asked [] 1 (more k.after r) tt (ih k.after r))
+      (λ _. after_asks_right k.asked 0 (more k.after r) (ih k.after r))
+      (λ x _. after_asks_right k.asked 1 (more k.after r) (ih k.after r))
 
   pub seek_right : (fuel : ℕ) (c : Cache K S) (r : R) → Right (seek m now fuel c r)
-  seek_right zero c r = record { found = λ i e. cc; draws = tt }
+  seek_right zero c r = record { found = λ i e. cc; fair = tt; drawn = tt }
   seek_right (suc fuel) c r =
       let d = draw m.endpoints m.weights now m.words c r in
-      after_right [] d.draws 0 _ (draw_fair c r) (try_right (seek m now fuel) (seek_right fuel) d.place d.cache d.words)
+      let right = try_right (seek m now fuel) (seek_right fuel) in
+      after_draws_right d.draws _ (draw_fair c r) (draw_asked m now (seek m now fuel) c r (λ i c' r'. (right i c' r').drawn)) (right d.place d.cache d.words)
 
   pub select_right : (selected : Option ℕ) (c : Cache K S) (r : R) → Right (select m now selected c r)
   select_right selected c r =

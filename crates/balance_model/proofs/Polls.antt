@@ -1,29 +1,31 @@
 -- A poll keeps what holds.
 use Rattle.model.specs.Options.{by_some}
-use Rattle.model.specs.Lists.{Each}
+use Rattle.model.specs.Lists.{last_of, Each}
 use Rattle.model.proofs.Cases.{some_case}
 use Rattle.model.proofs.Totals.{total, total_mono}
 use Rattle.model.proofs.Places.{last_append, each_map}
 use Rattle.service.specs.declared.poll.Poll.{Poll}
+use Rattle.service.specs.Numbers.{poll_report}
 use Rattle.cache_model.specs.declared.entry.Entry.{Entry}
 use Rattle.cache_model.specs.Cache.{Cache}
 use Rattle.cache_model.proofs.Steps.{sum_held, Keeps, of_worker, keeps_refl, keeps_trans}
 use Rattle.cache_model.proofs.Serials.{is_serial, is_pair, pair_serial}
 use Rattle.balance_model.specs.declared.answer.Polled.{Polled}
 use Rattle.balance_model.specs.declared.answer.PollError.{PollError}
-use Rattle.balance_model.specs.Answers.{named, ready_worker}
+use Rattle.balance_model.specs.Answers.{named}
 use Rattle.balance_model.specs.Meanings.{Meanings}
 use Rattle.balance_model.specs.Docket.{Docket}
-use Rattle.balance_model.specs.Balance.{Balancer, Fed, read_feed, Settled, settle, Sought, select, PollOutcome, poll, ended, serial_at}
+use Rattle.balance_model.specs.Balance.{Balancer, asks, questions_in, draws_in, Fed, read_feed, Settled, settle, Sought, select, PollOutcome, poll, ended, serial_at}
 use Rattle.balance_model.specs.History.{History, polled, brought_in, brought, said_ready}
-use Rattle.balance_model.specs.Promise.{CountRight, DrawFair}
+use Rattle.balance_model.specs.Promise.{CountRight, DrawFair, DrawnAsked}
 use Rattle.balance_model.specs.Polls.{PollLawful}
 use Rattle.balance_model.proofs.Search.{settle_keeps, select_keeps}
 use Rattle.balance_model.proofs.Feed.{FedRight, of_push, read_feed_right}
 use Rattle.balance_model.proofs.Naming.{Grants, SoughtRight, select_right}
+use Rattle.balance_model.proofs.Logs.{questions_after_asks, draws_after_asks, drawn_after_asks, draws_of_asks, drawn_of_asks}
 use Rattle.balance_model.proofs.Nobody.{NobodyLeft, select_nobody}
 use Rattle.balance_model.proofs.Holds.{Holds, Open}
-use Rattle.std.proofs.Common.{◌≡◌, ℕ, suc, ◌<◌, ◌≤◌, Bool, true, false, ◌⊎◌, [], ◌∷◌, ◌++◌, length, Some, None, Ok, Err, Option, Result, refl, ap, ◌∙◌, inl, inr, arith}
+use Rattle.std.proofs.Common.{◌≡◌, ℕ, suc, ◌<◌, ◌≤◌, Bool, true, false, ◌⊎◌, [], ◌∷◌, ◌++◌, length, map, Some, None, Ok, Err, Option, Result, sym, refl, ap, ◌∙◌, subst, inl, inr, arith}
 use Rattle.std.proofs.lemmas.Bool.{cases_lt}
 use Rattle.service.specs.declared.poll.Poll.TheVariants.{Ready, Pending}
 
@@ -34,11 +36,12 @@ module _ {K S Q A E W D F R : Type 0} (m : Meanings K S Q A E W D F R) (now : �
 
   -- the selected worker granted, and is the one named
   abbrev Found : PollOutcome K S E D F R → Type 0
-  Found p = (i : ℕ) × (p.balancer.selected ≡ Some i) × (g : Grants m.endpoints now p.cache.ready p.log.asked i) × (named p.answer ≡ Some g.entry.serial)
+  Found p = (i : ℕ) × (p.balancer.selected ≡ Some i) × (g : Grants m.endpoints now p.cache.ready (questions_in p.log.steps) i) × (named p.answer ≡ Some g.entry.serial)
 
   record PollRight (c : Cache K S) (p : PollOutcome K S E D F R) : Type 0 where
     fed : FedRight m.keys m.endpoints c (as_fed p)
-    draws : Each (DrawFair m.endpoints m.weights now) p.log.draws
+    fair : Each (DrawFair m.endpoints m.weights now) (draws_in p.log.steps)
+    drawn : DrawnAsked p.log.steps
     found : p.balancer.fresh ≡ true → Found p
     nobody : p.balancer.fresh ≡ false → named p.answer ≡ None
     empty : (lost : ℕ) → p.answer ≡ Ok (record { worker = Pending; lost = lost }) → p.cache.ready ≡ []
@@ -77,30 +80,31 @@ module _ {K S Q A E W D F R : Type 0} (m : Meanings K S Q A E W D F R) (now : �
       some_case Goal fed.fault _ _
       (λ _. some_case Goal settled.stuck _ _
       (λ _. ended_right b c fed settled sought (then_keeps c fed _ r two refl) (select_right m now fed.selected settled.cache b.words) (select_nobody m now fed.selected settled.cache b.words))
-      (λ k _. record { fed = then_keeps c fed _ r one refl; draws = tt; found = λ e. false_true e; nobody = λ _. refl; empty = λ _ e. not_ended e }))
-      (λ x e. record { fed = then_keeps c fed _ r (keeps_refl m.keys m.endpoints fed.cache) refl; draws = tt; found = λ e. false_true e; nobody = λ _. refl; empty = λ _ e. not_ended e })
+      (λ k _. record { fed = then_keeps c fed _ r one refl; fair = subst (Each (DrawFair m.endpoints m.weights now)) (sym (draws_of_asks K S settled.asked)) tt; drawn = drawn_of_asks K S settled.asked; found = λ e. false_true e; nobody = λ _. refl; empty = λ _ e. not_ended e }))
+      (λ x e. record { fed = then_keeps c fed _ r (keeps_refl m.keys m.endpoints fed.cache) refl; fair = tt; drawn = tt; found = λ e. false_true e; nobody = λ _. refl; empty = λ _ e. not_ended e })
     where
       ended_right : (b : Balancer D R) (c : Cache K S) (fed : Fed K S D F) (settled : Settled K S E) (sought : Sought K S E R) → FedRight m.keys m.endpoints c (as_fed (ended m now b fed settled sought)) → SoughtRight m.endpoints m.weights now sought → NobodyLeft m now sought → PollRight c (ended m now b fed settled sought)
       ended_right b c fed settled sought r right none = record {
         fed = r;
-        draws = right.draws;
+        fair = subst (Each (DrawFair m.endpoints m.weights now)) (sym (draws_after_asks settled.asked sought.steps)) right.fair;
+        drawn = drawn_after_asks settled.asked sought.steps right.drawn;
         found = found_at sought.place right.found;
         nobody = nobody_at sought.place;
         empty = λ lost e. none (nowhere sought.place right.found (ap worker_of e));
       }
         where
-          found_at : (o : Option ℕ) → ((i : ℕ) → o ≡ Some i → Grants m.endpoints now sought.cache.ready sought.asked i) → by_some o false (λ _. true) ≡ true →
-              (i : ℕ) × (o ≡ Some i) × (g : Grants m.endpoints now sought.cache.ready (settled.asked ++ sought.asked) i) × (ready_worker (serial_at sought.cache o) ≡ Some g.entry.serial)
+          found_at : (o : Option ℕ) → ((i : ℕ) → o ≡ Some i → Grants m.endpoints now sought.cache.ready (questions_in sought.steps) i) → by_some o false (λ _. true) ≡ true →
+              (i : ℕ) × (o ≡ Some i) × (g : Grants m.endpoints now sought.cache.ready (questions_in (map asks settled.asked ++ sought.steps)) i) × ((poll_report (serial_at sought.cache o)).value ≡ Some g.entry.serial)
           found_at None f e = false_true e
           found_at (Some i) f e =
               let g = f i refl in (
                 i,
                 refl,
-                record { entry = g.entry; stands = g.stands; last = last_append settled.asked sought.asked _ g.last; grant = g.grant },
-                ap (λ (o : Option (Entry K S)). ready_worker (by_some {B = Poll ℕ} o Pending (λ x. Ready x.serial))) g.stands,
+                record { entry = g.entry; stands = g.stands; last = ap last_of (questions_after_asks settled.asked sought.steps) ∙ last_append settled.asked (questions_in sought.steps) _ g.last; grant = g.grant },
+                ap (λ (o : Option (Entry K S)). (poll_report (by_some {B = Poll ℕ} o Pending (λ x. Ready x.serial))).value) g.stands,
               )
 
-          nobody_at : (o : Option ℕ) → by_some o false (λ _. true) ≡ false → ready_worker (serial_at sought.cache o) ≡ None
+          nobody_at : (o : Option ℕ) → by_some o false (λ _. true) ≡ false → (poll_report (serial_at sought.cache o)).value ≡ None
           nobody_at None e = refl
           nobody_at (Some i) e = cc
 
@@ -109,7 +113,7 @@ module _ {K S Q A E W D F R : Type 0} (m : Meanings K S Q A E W D F R) (now : �
           worker_of (Ok p) = p.worker
           worker_of (Err e) = Pending
 
-          nowhere : (o : Option ℕ) → ((i : ℕ) → o ≡ Some i → Grants m.endpoints now sought.cache.ready sought.asked i) → serial_at sought.cache o ≡ Pending → o ≡ None
+          nowhere : (o : Option ℕ) → ((i : ℕ) → o ≡ Some i → Grants m.endpoints now sought.cache.ready (questions_in sought.steps) i) → serial_at sought.cache o ≡ Pending → o ≡ None
           nowhere None f e = refl
           nowhere (Some i) f e =
               let g = f i refl in
@@ -129,7 +133,8 @@ module _ {K S Q A E W D F R : Type 0} (m : Meanings K S Q A E W D F R) (now : �
             ∙ ap (λ (o : Option (Entry K S)). by_some {B = Poll ℕ} o Pending (λ x. Ready x.serial)) f.2.stands
             ∙ ap Ready (is_named serial e f);
         nobody = r.empty;
-        shares = r.draws;
+        shares = r.fair;
+        drawn_asked = r.drawn;
       }
         where
           by_fresh : (t : Bool) → p.balancer.fresh ≡ t → (serial : ℕ) → named p.answer ≡ Some serial → Found p
@@ -165,7 +170,8 @@ module _ {K S Q A E W D F R : Type 0} (m : Meanings K S Q A E W D F R) (now : �
                 record { place = f.0; entry = f.2.entry; granted = now; chosen = f.1; stands = f.2.stands; grant = f.2.grant; named = f.3; said = f.2.last; unsent = refl };
             spent = λ e. inr (inl (r.nobody e));
             calls = o.calls;
-            draws = (r.draws, o.draws);
+            draws = (r.fair, o.draws);
+            drawn = (r.drawn, o.drawn);
           }
         where
           serial : (s : ℕ) → (s < c.next) ⊎ (c.next ≤ s) → sum_held m.keys m.endpoints (is_serial s) p.cache ≤ 1

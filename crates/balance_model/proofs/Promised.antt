@@ -40,6 +40,7 @@ module _ {K S Q A E W D F R : Type 0} (m : Meanings K S Q A E W D F R) where
     spent = λ _. inl refl;
     calls = tt;
     draws = tt;
+    drawn = tt;
   }
 
   one_pick : (run : Run K S A E D F R) (p : Pick Q) → RunHolds run → RunHolds (apply m run p)
@@ -80,6 +81,7 @@ module _ {K S Q A E W D F R : Type 0} (m : Meanings K S Q A E W D F R) where
         (each_count run.history run.state.cache o.counts run.state.cache.pending (λ s n. omega arith));
     words = t;
     shares = o.draws;
+    drawn_asked = o.drawn;
   }
 
   -- of every run

@@ -10,10 +10,11 @@ use Rattle.balance_model.specs.declared.pick.Pick.{Pick}
 use Rattle.balance_model.specs.Meanings.{Meanings}
 use Rattle.balance_model.specs.Docket.{docket_refuses}
 use Rattle.balance_model.specs.Draw.{Draw, Drawn, draw}
-use Rattle.balance_model.specs.Balance.{Balancer, State, read_feed, settle, Sought, try, seek, seek_all, select, PollOutcome, poll, Sent, call}
+use Rattle.balance_model.specs.Balance.{Balancer, State, read_feed, settle, Sought, asks, draws_in, try, seek, seek_all, select, PollOutcome, poll, Sent, call}
 use Rattle.balance_model.specs.History.{Run, apply, apply_all, draws_of}
 use Rattle.balance_model.specs.Promise.{Took}
-use Rattle.std.proofs.Common.{◌≡◌, ℕ, zero, suc, not, ltb, List, [], ◌∷◌, ◌++◌, length, Option, Result, sym, refl, subst}
+use Rattle.balance_model.proofs.Logs.{draws_after_asks, draws_of_asks, draws_after_draws}
+use Rattle.std.proofs.Common.{◌≡◌, ℕ, zero, suc, not, ltb, List, [], ◌∷◌, ◌++◌, length, map, Option, Result, sym, refl, subst}
 use Rattle.balance_model.specs.declared.pick.Pick.TheVariants as pick
 use Rattle.cache_model.specs.Cache as cache
 
@@ -30,18 +31,25 @@ module _ {K S Q A E W D F R : Type 0} (m : Meanings K S Q A E W D F R) where
       (λ _. (refl, refl, refl))
 
   abbrev SoughtTook : R → Sought K S E R → Type 0
-  SoughtTook r s = Took m.words r s.draws s.words
+  SoughtTook r s = Took m.words r (draws_in s.steps) s.words
 
   try_took : (now : ℕ) (more : Cache K S → R → Sought K S E R) → ((c : Cache K S) (r : R) → SoughtTook r (more c r)) → (i : ℕ) (c : Cache K S) (r : R) → SoughtTook r (try m now more i c r)
   try_took now more ih i c r =
       let k = check m.keys m.endpoints now c i in
-      check_case (SoughtTook r) k.answer _ _ _ (λ _. refl) (λ _. ih k.after r) (λ x _. ih k.after r)
+      let later : Took m.words r (draws_in (map asks k.asked ++ (more k.after r).steps)) (more k.after r).words =
+      subst (λ (ds : List (Draw K S)). Took m.words r ds (more k.after r).words) (sym (draws_after_asks k.asked (more k.after r).steps)) (ih k.after r) in
+      check_case (SoughtTook r) k.answer _ _ _
+      (λ _. subst (λ (ds : List (Draw K S)). Took m.words r ds r) (sym (draws_of_asks K S k.asked)) refl)
+      (λ _. later)
+      (λ x _. later)
 
   seek_took : (now fuel : ℕ) (c : Cache K S) (r : R) → SoughtTook r (seek m now fuel c r)
   seek_took now zero c r = refl
   seek_took now (suc fuel) c r =
       let d = draw m.endpoints m.weights now m.words c r in
-      took_append m.words d.draws _ r d.words _ (draw_took now c r) (try_took now (seek m now fuel) (seek_took now fuel) d.place d.cache d.words)
+      let s = try m now (seek m now fuel) d.place d.cache d.words in
+      subst (λ (ds : List (Draw K S)). Took m.words r ds s.words) (sym (draws_after_draws d.draws s.steps))
+      (took_append m.words d.draws _ r d.words _ (draw_took now c r) (try_took now (seek m now fuel) (seek_took now fuel) d.place d.cache d.words))
 
   select_took : (now : ℕ) (selected : Option ℕ) (c : Cache K S) (r : R) → SoughtTook r (select m now selected c r)
   select_took now selected c r =
@@ -49,17 +57,17 @@ module _ {K S Q A E W D F R : Type 0} (m : Meanings K S Q A E W D F R) where
       (λ _. seek_took now (length c.ready) c r)
       (λ i _. try_took now (seek_all m now) (λ c' r'. seek_took now (length c'.ready) c' r') i c r)
 
-  poll_took : (now : ℕ) (b : Balancer D R) (c : Cache K S) → Took m.words b.words (poll m now b c).log.draws (poll m now b c).balancer.words
+  poll_took : (now : ℕ) (b : Balancer D R) (c : Cache K S) → Took m.words b.words (draws_in (poll m now b c).log.steps) (poll m now b c).balancer.words
   poll_took now b c =
       let fed = read_feed m now b.budget b.feed b.selected c in
       let settled = settle m.keys m.endpoints now (suc (length fed.cache.pending)) fed.cache in
       let sought = select m now fed.selected settled.cache b.words in
-      let Goal : PollOutcome K S E D F R → Type 0 = λ p. Took m.words b.words p.log.draws p.balancer.words in
+      let Goal : PollOutcome K S E D F R → Type 0 = λ p. Took m.words b.words (draws_in p.log.steps) p.balancer.words in
       let one = select_took now fed.selected settled.cache b.words in
       some_case Goal fed.fault _ _
       (λ _. some_case Goal settled.stuck _ _
-      (λ _. one)
-      (λ k _. refl))
+      (λ _. subst (λ (ds : List (Draw K S)). Took m.words b.words ds sought.words) (sym (draws_after_asks settled.asked sought.steps)) one)
+      (λ k _. subst (λ (ds : List (Draw K S)). Took m.words b.words ds b.words) (sym (draws_of_asks K S settled.asked)) refl))
       (λ x _. refl)
 
   call_words : (now : ℕ) (st : State K S D R) (q : Q) → (call m now st q).after.balancer.words ≡ st.balancer.words
@@ -81,7 +89,7 @@ module _ {K S Q A E W D F R : Type 0} (m : Meanings K S Q A E W D F R) where
   one_took : (start : R) (run : Run K S A E D F R) (p : Pick Q) → RunTook start run → RunTook start (apply m run p)
   one_took start run (pick.Poll now) t =
       let p = poll m now run.state.balancer run.state.cache in
-      took_append m.words (draws_of run.history) p.log.draws start run.state.balancer.words p.balancer.words t (poll_took now run.state.balancer run.state.cache)
+      took_append m.words (draws_of run.history) (draws_in p.log.steps) start run.state.balancer.words p.balancer.words t (poll_took now run.state.balancer run.state.cache)
   one_took start run (pick.Call q now) t = subst (λ (x : R). Took m.words start (draws_of run.history) x) (sym (call_words now run.state q)) t
   one_took start run (pick.Complete ticket now) t = t
 

@@ -1,5 +1,5 @@
 -- The balancer and its steps, over a cache and a docket.
-use Rattle.std.specs.Prelude.{ℕ, zero, suc, ◌+◌, min, Bool, true, false, cond, not, ◌||◌, List, [], ◌∷◌, ◌++◌, length, Some, None, Ok, Err, Option, Result, ◌==◌}
+use Rattle.std.specs.Prelude.{ℕ, zero, suc, ◌+◌, min, Bool, true, false, cond, not, ◌||◌, List, [], ◌∷◌, ◌++◌, length, map, Some, None, Ok, Err, Option, Result, ◌==◌}
 use Rattle.model.specs.Outcome.{Outcome, outcome}
 use Rattle.model.specs.Options.{by_some, by_result}
 use Rattle.model.specs.Lists.{at}
@@ -16,13 +16,15 @@ use Rattle.cache_model.specs.Cache as cache
 use Rattle.cache_model.specs.Cache.{Cache, new_cache, Question, push, evict, poll_pending, check, finish}
 use Rattle.balance_model.specs.declared.answer.Polled.{Polled}
 use Rattle.balance_model.specs.declared.answer.PollError.{PollError}
-use Rattle.balance_model.specs.declared.answer.PollError.TheVariants.{Discover, Push, NoPlace}
+use Rattle.balance_model.specs.declared.answer.PollError.TheVariants.{Discover, Cache as OfCache}
+use Rattle.cache_model.specs.declared.error.CacheError.TheVariants.{Push}
 use Rattle.balance_model.specs.declared.answer.CallError.{CallError}
 use Rattle.balance_model.specs.declared.answer.CallError.TheVariants as error
 use Rattle.balance_model.specs.declared.answer.CompleteError.{CompleteError}
 use Rattle.balance_model.specs.declared.answer.CompleteError.TheVariants.{UnknownTicket}
 use Rattle.balance_model.specs.declared.answer.Completion.{Completion}
 use Rattle.balance_model.specs.declared.answer.Completion.TheVariants.{Held, Gone}
+use Rattle.balance_model.specs.Answers.{no_place}
 use Rattle.balance_model.specs.Meanings.{Meanings}
 use Rattle.balance_model.specs.Docket.{Docket, new_docket, docket_refuses, noted, removed}
 use Rattle.balance_model.specs.Draw.{Draw, draw}
@@ -69,11 +71,27 @@ pub record Pushed (S : Type 0) : Type 0 where
   pub serial : ℕ
   pub worker : S
 
--- the log of a poll, oldest first: the pushes, the questions put to workers, the draws among two or more
+-- a step of a poll: a question is put to a worker, or one of two or more is drawn
+pub data Step (K S E : Type 0) : Type 0 where
+  asks : Question E → Step K S E
+  draws : Draw K S → Step K S E
+
+-- the log of a poll, oldest first: the pushes, and then the steps
 pub record Log (K S E : Type 0) : Type 0 where
   pub pushes : List (Pushed S)
-  pub asked : List (Question E)
-  pub draws : List (Draw K S)
+  pub steps : List (Step K S E)
+
+module _ {K S E : Type 0} where
+  -- the questions of these steps, and the draws
+  abbrev pub questions_in : List (Step K S E) → List (Question E)
+  questions_in [] = []
+  questions_in (asks q ∷ steps) = q ∷ questions_in steps
+  questions_in (draws d ∷ steps) = questions_in steps
+
+  abbrev pub draws_in : List (Step K S E) → List (Draw K S)
+  draws_in [] = []
+  draws_in (asks q ∷ steps) = draws_in steps
+  draws_in (draws d ∷ steps) = d ∷ draws_in steps
 
 -- ---- reading the feed
 
@@ -110,7 +128,7 @@ module _ {K S D F : Type 0} (keys : Sameness K) (feeds : Feeds D K S F) (now : �
       let p = push keys c k s in
       by_result p.answer
       (λ serial. record { answer = Ok true; feed = left.after; selected = selected; cache = p.after; pushes = record { serial = serial; worker = s } ∷ [] })
-      (λ e. record { answer = Err (Push e); feed = left.after; selected = selected; cache = p.after; pushes = [] }))
+      (λ e. record { answer = Err (OfCache (Push e)); feed = left.after; selected = selected; cache = p.after; pushes = [] }))
       (λ k. record {
         answer = Ok true;
         feed = left.after;
@@ -152,15 +170,14 @@ pub record Sought (K S E R : Type 0) : Type 0 where
   pub cache : Cache K S
   pub words : R
   pub lost : ℕ
-  pub asked : List (Question E)
-  pub draws : List (Draw K S)
+  pub steps : List (Step K S E)
 
 -- the serial of the ready worker at a place, if there is one
 abbrev pub serial_at : {K S : Type 0} → Cache K S → Option ℕ → Poll ℕ
 serial_at c place = by_some place Pending (λ i. by_some (at c.ready i) Pending (λ e. Ready e.serial))
 
-abbrev pub after_these : {K S E R : Type 0} → List (Question E) → List (Draw K S) → ℕ → Sought K S E R → Sought K S E R
-after_these asked draws lost s = record { place = s.place; cache = s.cache; words = s.words; lost = lost + s.lost; asked = asked ++ s.asked; draws = draws ++ s.draws }
+abbrev pub after_these : {K S E R : Type 0} → List (Step K S E) → ℕ → Sought K S E R → Sought K S E R
+after_these steps lost s = record { place = s.place; cache = s.cache; words = s.words; lost = lost + s.lost; steps = steps ++ s.steps }
 
 -- ---- what poll, call and complete leave
 
@@ -215,16 +232,16 @@ module _ {K S Q A E W D F R : Type 0} (m : Meanings K S Q A E W D F R) (now : �
   try more i c r =
       let k = check m.keys m.endpoints now c i in
       by_check k.answer
-      (record { place = Some i; cache = k.after; words = r; lost = 0; asked = k.asked; draws = [] })
-      (after_these k.asked [] 0 (more k.after r))
-      (after_these k.asked [] 1 (more k.after r))
+      (record { place = Some i; cache = k.after; words = r; lost = 0; steps = map asks k.asked })
+      (after_these (map asks k.asked) 0 (more k.after r))
+      (after_these (map asks k.asked) 1 (more k.after r))
 
   -- draws until one says Ready or none is ready; each that does not leaves, so `fuel` of the ready length never runs out
   abbrev pub seek : ℕ → Cache K S → R → Sought K S E R
-  seek zero c r = record { place = None; cache = c; words = r; lost = 0; asked = []; draws = [] }
+  seek zero c r = record { place = None; cache = c; words = r; lost = 0; steps = [] }
   seek (suc fuel) c r =
       let d = draw m.endpoints m.weights now m.words c r in
-      after_these [] d.draws 0 (try (seek fuel) d.place d.cache d.words)
+      after_these (map draws d.draws) 0 (try (seek fuel) d.place d.cache d.words)
 
   abbrev pub seek_all : Cache K S → R → Sought K S E R
   seek_all c r = seek (length c.ready) c r
@@ -239,7 +256,7 @@ module _ {K S Q A E W D F R : Type 0} (m : Meanings K S Q A E W D F R) (now : �
     answer = Ok (record { worker = serial_at sought.cache sought.place; lost = settled.lost + sought.lost });
     balancer = record { feed = fed.feed; words = sought.words; budget = b.budget; selected = sought.place; fresh = by_some sought.place false (λ _. true) };
     cache = sought.cache;
-    log = record { pushes = fed.pushes; asked = settled.asked ++ sought.asked; draws = sought.draws };
+    log = record { pushes = fed.pushes; steps = map asks settled.asked ++ sought.steps };
   }
 
   -- a poll that a fault ended keeps the selected index
@@ -248,7 +265,7 @@ module _ {K S Q A E W D F R : Type 0} (m : Meanings K S Q A E W D F R) (now : �
     answer = Err fault;
     balancer = record { feed = fed.feed; words = b.words; budget = b.budget; selected = fed.selected; fresh = false };
     cache = c;
-    log = record { pushes = fed.pushes; asked = asked; draws = [] };
+    log = record { pushes = fed.pushes; steps = map asks asked };
   }
 
   abbrev pub poll : Balancer D R → Cache K S → PollOutcome K S E D F R
@@ -258,7 +275,7 @@ module _ {K S Q A E W D F R : Type 0} (m : Meanings K S Q A E W D F R) (now : �
       by_some fed.fault
       (by_some settled.stuck
       (ended b fed settled (select fed.selected settled.cache b.words))
-      (λ k. faulted b fed (NoPlace k) settled.cache settled.asked))
+      (λ k. faulted b fed (no_place k) settled.cache settled.asked))
       (λ fault. faulted b fed fault fed.cache [])
 
   abbrev pub refused : State K S D R → CallError → Outcome (Result (Sent A) CallError) (State K S D R)

@@ -16,7 +16,7 @@ use Rattle.balance_model.specs.declared.pick.Answer.TheVariants.{Polled as Polle
 use Rattle.balance_model.specs.Answers.{named}
 use Rattle.balance_model.specs.Meanings.{Meanings}
 use Rattle.balance_model.specs.Draw.{Draw}
-use Rattle.balance_model.specs.Balance.{State, Making, newly_made, Pushed, Log, Sent, poll, call, call_answer, complete}
+use Rattle.balance_model.specs.Balance.{State, Making, newly_made, Pushed, Log, questions_in, draws_in, Sent, poll, call, call_answer, complete}
 
 -- ---- events and runs
 
@@ -78,7 +78,7 @@ said_ready serial = record { serial = serial; answer = Ready }
 
 -- a worker granted in a poll: its `poll_ready` was the last asked there, and said Ready
 abbrev pub Granted : {K S E : Type 0} → Log K S E → ℕ → Type 0
-Granted log serial = last_of log.asked ≡ Some (said_ready serial)
+Granted log serial = last_of (questions_in log.steps) ≡ Some (said_ready serial)
 
 -- a poll as a history has it
 pub record Latest (K S E F : Type 0) : Type 0 where
@@ -139,6 +139,6 @@ module _ {K S A E F : Type 0} where
   -- the draws of all polls, oldest first
   abbrev pub draws_of : History K S A E F → List (Draw K S)
   draws_of [] = []
-  draws_of (polled at log answer ∷ h) = draws_of h ++ log.draws
+  draws_of (polled at log answer ∷ h) = draws_of h ++ draws_in log.steps
   draws_of (called at answer ∷ h) = draws_of h
   draws_of (completed at ticket answer ∷ h) = draws_of h

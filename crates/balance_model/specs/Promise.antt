@@ -1,5 +1,5 @@
 -- What is promised of every run.
-use Rattle.std.specs.Prelude.{◌≡◌, ℕ, ◌+◌, ◌-◌, ◌%◌, ◌<◌, ◌≤◌, Bool, false, T, ◌⊎◌, ◌↔◌, List, [], ◌∷◌, ◌++◌, length, Some, None, Ok, Err, Result}
+use Rattle.std.specs.Prelude.{◌≡◌, ℕ, ◌+◌, ◌-◌, ◌%◌, ◌<◌, ◌≤◌, Bool, false, T, ◌⊎◌, ◌↔◌, List, [], ◌∷◌, ◌++◌, length, Some, None, Ok, Err, Option, Result}
 use Rattle.model.specs.Options.{by_some}
 use Rattle.model.specs.Lists.{how_many, at, Each}
 use Rattle.sampling.specs.Pairs.{OnePairEach}
@@ -13,7 +13,7 @@ use Rattle.balance_model.specs.declared.answer.CallError.{CallError}
 use Rattle.balance_model.specs.Answers.{call_error_number}
 use Rattle.balance_model.specs.Meanings.{Meanings}
 use Rattle.balance_model.specs.Draw.{Draw}
-use Rattle.balance_model.specs.Balance.{Making, Sent}
+use Rattle.balance_model.specs.Balance.{Step, asks, draws, draws_in, Making, Sent}
 use Rattle.balance_model.specs.History.{History, polled, called, completed, latest_poll, named_by_latest, GrantedInLatest, sent_since, brought, sent_to, is_completed, draws_of, Run}
 
 -- ---- calls
@@ -78,9 +78,37 @@ module _ {K S Q A E W F : Type 0} (ends : Endpoints S Q A E W) (weights : Weight
   -- every draw of every poll is fair
   abbrev pub DrawsFair : History K S A E F → Type 0
   DrawsFair [] = Unit {0}
-  DrawsFair (polled now log answer ∷ h) = Each (DrawFair ends weights now) log.draws × DrawsFair h
+  DrawsFair (polled now log answer ∷ h) = Each (DrawFair ends weights now) (draws_in log.steps) × DrawsFair h
   DrawsFair (called now answer ∷ h) = DrawsFair h
   DrawsFair (completed now ticket answer ∷ h) = DrawsFair h
+
+-- the serial of the worker that a draw takes
+abbrev pub drawn_serial : {K S : Type 0} → Draw K S → Option ℕ
+drawn_serial d = by_some (at d.before d.place) None (λ e. Some e.serial)
+
+module _ {K S E : Type 0} where
+  -- the serial to which the first question of these steps goes
+  abbrev pub next_asked : List (Step K S E) → Option ℕ
+  next_asked [] = None
+  next_asked (asks q ∷ steps) = Some q.serial
+  next_asked (draws d ∷ steps) = next_asked steps
+
+  -- the steps after a draw put their next question to the worker drawn
+  abbrev pub AsksDrawn : Draw K S → List (Step K S E) → Type 0
+  AsksDrawn d steps = (serial : ℕ) × (drawn_serial d ≡ Some serial) × (next_asked steps ≡ Some serial)
+
+  -- so it is after each draw
+  abbrev pub DrawnAsked : List (Step K S E) → Type 0
+  DrawnAsked [] = Unit {0}
+  DrawnAsked (asks q ∷ steps) = DrawnAsked steps
+  DrawnAsked (draws d ∷ steps) = AsksDrawn d steps × DrawnAsked steps
+
+-- and in each poll of a history
+abbrev pub AlwaysDrawnAsked : {K S A E F : Type 0} → History K S A E F → Type 0
+AlwaysDrawnAsked [] = Unit {0}
+AlwaysDrawnAsked (polled now log answer ∷ h) = DrawnAsked log.steps × AlwaysDrawnAsked h
+AlwaysDrawnAsked (called now answer ∷ h) = AlwaysDrawnAsked h
+AlwaysDrawnAsked (completed now ticket answer ∷ h) = AlwaysDrawnAsked h
 
 -- the words of these draws are the next ones of a source, two for each and no other: from r they lead to the end
 abbrev pub Took : {K S R : Type 0} → Words R → R → List (Draw K S) → R → Type 0
@@ -98,3 +126,4 @@ pub record Promise {K S Q A E W D F R : Type 0} (m : Meanings K S Q A E W D F R)
   pub counts : CountsRight m.endpoints.count run.history run.state.cache
   pub words : Took m.words made.words (draws_of run.history) run.state.balancer.words
   pub shares : DrawsFair m.endpoints m.weights run.history
+  pub drawn_asked : AlwaysDrawnAsked run.history

@@ -1,5 +1,5 @@
 // What the balancer's calls answer.
-use cache_model::error::{CallRefusal, PushError};
+use cache_model::error::{CacheError, CallRefusal};
 use service::poll::Poll;
 
 // A poll that came to its end: the serial of the worker that it names, if one is ready, and how many workers it lost.
@@ -9,12 +9,12 @@ pub struct Polled {
     pub lost: u32,
 }
 
-// What ended a poll early, by its layer: a fault of the feed, a refused push, or no place among the ready for this key.
+/// What ended a poll early, by its layer: a fault of the feed, with the feed's error; or the cache, which refused a push or had no place
+/// among the ready, with the key.
 #[derive(Clone, Copy, PartialEq, Eq, Debug)]
 pub enum PollError<K, F> {
     Discover(F),
-    Push(PushError<K>),
-    NoPlace(K),
+    Cache(CacheError<K>),
 }
 
 // Why the docket takes no record, with its number.

@@ -1,19 +1,39 @@
-// The number of a refusal or a fault of the balancer's calls, as programs print it.
+// What the answers of the balancer's calls say: the number of a refusal or a fault, as programs print it, and what else they carry.
 // Cases with contents are matched: `as` takes the number of a case without any.
 ghost use Rattle.std.specs.Prelude.{◌≡◌};
-ghost use Rattle.balance_model.specs.Answers.{poll_number, docket_number, call_error_number, complete_number};
+ghost use Rattle.balance_model.specs.Answers.{poll_error_report, docket_number, call_error_number, complete_number, completion_report, answer_number};
 
-use crate::answer::{CallError, CompleteError, DocketRefusal, PollError};
+use crate::answer::{CallError, CompleteError, Completion, DocketRefusal, PollError};
+use crate::pick::Answer;
 
 impl<K: Copy, F: Copy> PollError<K, F> {
-    // The number of what ended the poll.
+    /// The number of what ended the poll: 12 for the feed, and 1, 2 or 10 for the cache.
     pub fn number(&self) -> u8
-        ensures { result ≡ poll_number self.now }
+        ensures { result ≡ (poll_error_report self.now).number }
     {
         match self {
             PollError::Discover(_) => 12,
-            PollError::Push(error) => error.number(),
-            PollError::NoPlace(_) => 10,
+            PollError::Cache(error) => error.number(),
+        }
+    }
+
+    /// The key of the worker that the cache refused, or had no place for.
+    pub fn key(&self) -> Option<K>
+        ensures { result ≡ (poll_error_report self.now).key }
+    {
+        match self {
+            PollError::Discover(_) => None,
+            PollError::Cache(error) => Some(error.key()),
+        }
+    }
+
+    /// The feed's error.
+    pub fn error(&self) -> Option<F>
+        ensures { result ≡ (poll_error_report self.now).error }
+    {
+        match self {
+            PollError::Discover(error) => Some(*error),
+            PollError::Cache(_) => None,
         }
     }
 }
@@ -46,5 +66,31 @@ impl CompleteError {
         ensures { result ≡ complete_number self }
     {
         self as u8
+    }
+}
+
+impl Completion {
+    /// Whether the worker was still held, and was told that its request is over.
+    pub fn is_held(self) -> bool
+        ensures { result ≡ (completion_report self).held }
+    {
+        match self {
+            Completion::Held => true,
+            Completion::Gone => false,
+        }
+    }
+}
+
+impl<K: Copy, A: Copy, F: Copy> Answer<K, A, F> {
+    /// The number of a refusal or a fault; other answers have none.
+    pub fn number(&self) -> Option<u8>
+        ensures { result ≡ answer_number self.now }
+    {
+        match self {
+            Answer::Polled(Err(error)) => Some(error.number()),
+            Answer::Called(Err(error)) => Some(error.number()),
+            Answer::Completed(Err(error)) => Some(error.number()),
+            _ => None,
+        }
     }
 }

@@ -3,6 +3,7 @@ use Rattle.std.proofs.Common.{◌≡◌, Bool, true, false, Ok, Err, Result, ref
 use Rattle.service.specs.declared.poll.Poll.{Poll}
 use Rattle.service.specs.declared.readiness.Readiness.{Readiness}
 use Rattle.service.specs.declared.readiness.Readiness.TheVariants.{Ready, Pending, Failed}
+use Rattle.cache_model.specs.declared.error.NoPlace.{NoPlace}
 use Rattle.cache_model.specs.declared.error.Failed.{Failed as Failure}
 use Rattle.cache_model.specs.declared.error.PendingError.{PendingError}
 use Rattle.cache_model.specs.declared.error.PendingError.TheVariants as pending
@@ -18,7 +19,7 @@ check_case P (Ok true) y n f a b c = a refl
 check_case P (Ok false) y n f a b c = b refl
 check_case P (Err x) y n f a b c = c x refl
 
-pub pass_case : {K E B : Type 0} (P : B → Type 0) (v : Result (Poll (Unit {0})) (PendingError K E)) (end : B) (n : K → B) (f : Failure K E → B) → ((p : Poll (Unit {0})) → v ≡ Ok p → P end) → ((k : K) → v ≡ Err (pending.NoPlace k) → P (n k)) → ((x : Failure K E) → v ≡ Err (pending.Failed x) → P (f x)) → P (by_pass v end n f)
+pub pass_case : {K E B : Type 0} (P : B → Type 0) (v : Result (Poll (Unit {0})) (PendingError K E)) (end : B) (n : K → B) (f : Failure K E → B) → ((p : Poll (Unit {0})) → v ≡ Ok p → P end) → ((y : NoPlace K) → v ≡ Err (pending.NoPlace y) → P (n y.key)) → ((x : Failure K E) → v ≡ Err (pending.Failed x) → P (f x)) → P (by_pass v end n f)
 pass_case P (Ok p) end n f a b c = a p refl
-pass_case P (Err (pending.NoPlace k)) end n f a b c = b k refl
+pass_case P (Err (pending.NoPlace y)) end n f a b c = b y refl
 pass_case P (Err (pending.Failed x)) end n f a b c = c x refl

@@ -11,6 +11,7 @@ use Rattle.cache_model.specs.Entries.{holding, set_aside, entry, promote, any_li
 use Rattle.cache_model.specs.Cache.{Cache, Question, Asked, poll_pending, check, load, held, pass, Passed, asking_first, has_place, emptied}
 use Rattle.cache_model.proofs.Cases.{readiness_case}
 use Rattle.std.proofs.Common.{◌≡◌, ℕ, zero, suc, ◌+◌, ◌<◌, ◌≤◌, Bool, true, List, [], ◌∷◌, ◌++◌, length, take, drop, Some, None, Ok, Err, Option, Result, refl, ap, arith, length-append, length-drop, length-set, length-take}
+use Rattle.cache_model.specs.declared.error.NoPlace.{NoPlace}
 use Rattle.cache_model.specs.declared.error.Failed.{Failed}
 use Rattle.cache_model.specs.declared.error.PendingError.{PendingError}
 use Rattle.cache_model.specs.Entries.{holding, promote}
@@ -25,8 +26,8 @@ module _ {K S Q A E W : Type 0} (keys : Sameness K) (ends : Endpoints S Q A E W)
   no_fault : {P : Type 0} {x : PendingError K E} → None ≡ Some x → P
   no_fault {P} {x} e = cc
 
-  no_place_not_failed : {P : Type 0} {k : K} {x : Failed K E} → ◌≡◌ {A = Option (PendingError K E)} (Some (pending.NoPlace k)) (Some (pending.Failed x)) → P
-  no_place_not_failed {P} {k} {x} e = cc
+  no_place_not_failed : {P : Type 0} {y : NoPlace K} {x : Failed K E} → ◌≡◌ {A = Option (PendingError K E)} (Some (pending.NoPlace y)) (Some (pending.Failed x)) → P
+  no_place_not_failed {P} {y} {x} e = cc
 
   abbrev PassLost : List (Entry K S) → List (Entry K S) → Passed K S E → Type 0
   PassLost kept todo p = LostOne p.fault (length (p.kept ++ p.rest)) (length kept + length todo)

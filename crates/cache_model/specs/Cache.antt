@@ -111,7 +111,7 @@ module _ {K S Q A E W : Type 0} (keys : Sameness K) (ends : Endpoints S Q A E W)
       (asking_first question (by_readiness left.answer
       (cond (has_place keys capacity rs e.key)
       (pass capacity (promote keys mine rs) kept es)
-      (record { ready = rs; kept = kept; rest = mine ∷ es; fault = Some (error.NoPlace e.key); asked = [] }))
+      (record { ready = rs; kept = kept; rest = mine ∷ es; fault = Some (error.NoPlace (record { key = e.key })); asked = [] }))
       (pass capacity rs (kept ++ (mine ∷ [])) es)
       (λ x. record { ready = rs; kept = kept; rest = es; fault = Some (error.Failed (record { key = e.key; error = x })); asked = [] })))
 

@@ -6,3 +6,4 @@ pub mod entry;
 pub mod error;
 mod making;
 mod numbers;
+mod report;

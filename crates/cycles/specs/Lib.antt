@@ -1,1 +1,4 @@
 pub mod Repeating
+pub mod Cycles
+pub mod Shapes
+pub mod Sums

@@ -15,6 +15,7 @@ use peak_ewma::peak_ewma::PeakEwma;
 use peak_ewma::peak_ewma_discover::PeakEwmaDiscover;
 use peak_ewma::settings::Settings;
 use rng::hasher_rng::HasherRng;
+use runs::opening::Opening;
 use runs::run;
 use service::Endpoint;
 use std::alloc::Global;
@@ -70,10 +71,10 @@ const WORKERS: usize = 16;
 
 const REQUESTS: usize = 64;
 
-// Runs the picks over a feed, and answers the tickets. (`run` is lent three slices, whoever owns them: here a `Memory` does.)
+// Runs the picks over a feed, and answers the tickets. (The memory for answers is as long as the picks, so that all are made.)
 fn tickets_of<D: Discover<Key = Name, Error = Infallible> + Drop>(
     heap: Global,
-    discover: D,
+    feed: D,
     filler: D::Service,
     picks: &[Pick<u64>],
 ) -> anyhow::Result<Vec<Ticket>>
@@ -82,19 +83,21 @@ where
 {
     let blank = Entry::new(name("none")?, filler, 0);
     let mut memory = Memory::new(heap, blank, WORKERS, REQUESTS)?;
-    let ran = run(
-        heap,
-        memory.ready.as_mut_slice(),
-        memory.pending.as_mut_slice(),
-        memory.records.as_mut_slice(),
-        discover,
-        HasherRng::new(),
-        16,
-        1,
-        1,
+    let mut answers = memory::answers(heap, picks.len())?;
+    let opening = Opening {
+        feed,
+        words: HasherRng::new(),
+        budget: 16,
+        first_serial: 1,
+        first_ticket: 1,
+    };
+    run(
+        memory.as_mut_slices(),
+        opening,
         picks,
-    )?;
-    Ok(tickets(heap, picks, ran.answers.as_slice())?)
+        answers.as_mut_slice(),
+    );
+    Ok(tickets(heap, picks, answers.as_slice())?)
 }
 
 // Quotes, weighed by requests out. (The two routers differ in their feeds and workers; what they share is `tickets_of`.)

@@ -13,35 +13,19 @@ abbrev pub nth_discovered : {D K S F : Type 0} → Feeds D K S F → D → (ℕ 
 nth_discovered feeds d instants zero = (feeds.discovered d (instants 0)).answer
 nth_discovered feeds d instants (suc k) = nth_discovered feeds (feeds.discovered d (instants 0)).after (λ i. instants (suc i)) k
 
--- a fault of the feed has the number 12 and carries its error; the other answers have no number
-abbrev pub discovered_number : {K S F : Type 0} → Discovered K S F → Option ℕ
-discovered_number Pending = None
-discovered_number End = None
-discovered_number (Fault e) = Some 12
-discovered_number (Insert k s) = None
-discovered_number (Remove k) = None
+-- what an answer of a feed says: a fault has the number 12 and carries its error, an insertion the key and the worker, a removal the key
+pub record DiscoveryReport (K S F : Type 0) : Type 0 where
+  pub number : Option ℕ
+  pub error : Option F
+  pub key : Option K
+  pub worker : Option S
 
-abbrev pub discovered_error : {K S F : Type 0} → Discovered K S F → Option F
-discovered_error Pending = None
-discovered_error End = None
-discovered_error (Fault e) = Some e
-discovered_error (Insert k s) = None
-discovered_error (Remove k) = None
-
--- an insertion carries the key and the worker; a removal, the key
-abbrev pub discovered_key : {K S F : Type 0} → Discovered K S F → Option K
-discovered_key Pending = None
-discovered_key End = None
-discovered_key (Fault e) = None
-discovered_key (Insert k s) = Some k
-discovered_key (Remove k) = Some k
-
-abbrev pub discovered_worker : {K S F : Type 0} → Discovered K S F → Option S
-discovered_worker Pending = None
-discovered_worker End = None
-discovered_worker (Fault e) = None
-discovered_worker (Insert k s) = Some s
-discovered_worker (Remove k) = None
+abbrev pub discovery_report : {K S F : Type 0} → Discovered K S F → DiscoveryReport K S F
+discovery_report Pending = record { number = None; error = None; key = None; worker = None }
+discovery_report End = record { number = None; error = None; key = None; worker = None }
+discovery_report (Fault e) = record { number = Some 12; error = Some e; key = None; worker = None }
+discovery_report (Insert k s) = record { number = None; error = None; key = Some k; worker = Some s }
+discovery_report (Remove k) = record { number = None; error = None; key = Some k; worker = None }
 
 -- what is inserted becomes f of it; all else is passed on
 abbrev pub each_inserted : {K S T F : Type 0} → (S → T) → Discovered K S F → Discovered K T F

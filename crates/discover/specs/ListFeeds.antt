@@ -1,5 +1,6 @@
 -- The feed from a list: its answers in order, and End after the last, again and again.
 use Rattle.std.specs.Prelude.{ℕ, ◌+◌, cond, List, length, nat_lt}
+use Rattle.std.specs.Borrow.{Bor}
 use Rattle.model.specs.Outcome.{outcome}
 use Rattle.model.specs.Options.{by_some}
 use Rattle.model.specs.Lists.{at}
@@ -21,3 +22,7 @@ module _ {K S F : Type 0} where
         (in_list feed.answers.now feed.next)
         (record { answers = feed.answers; next = cond (nat_lt feed.next (length feed.answers.now)) (feed.next + 1) feed.next });
   }
+
+  -- newly made: the first answer is next
+  abbrev pub list_start : Bor (List (Discovered K S F)) → ListFeed K S F
+  list_start answers = record { answers = answers; next = 0 }

@@ -1,7 +1,7 @@
 // The feed from a list, and what is made of a feed's answers.
 ghost use Rattle.std.specs.Prelude.{◌≡◌, ℕ};
-ghost use Rattle.discover.specs.Feeds.{nth_discovered, discovered_number, ForInserted, InsertsMade};
-ghost use Rattle.discover.specs.ListFeeds.{list_feeds, in_list};
+ghost use Rattle.discover.specs.Feeds.{nth_discovered, discovery_report, ForInserted, InsertsMade};
+ghost use Rattle.discover.specs.ListFeeds.{list_feeds, list_start, in_list};
 
 use crate::Discover;
 use crate::discovered::Discovered;
@@ -12,7 +12,8 @@ impl<'a, K: Key, S: Copy, F: Copy> ListFeed<'a, K, S, F> {
     // A feed that gives these answers in their order, and then End, again and again.
     #[tactic(auto, using(crate::proofs::ListFeeds::list_nth))]
     pub fn new(answers: &'a [Discovered<K, S, F>]) -> Self
-        ensures { (instants : ℕ → ℕ) (k : ℕ) → nth_discovered list_feeds result instants k ≡ in_list answers.now k }
+        ensures value { result ≡ list_start answers.entry }
+        ensures answers { (instants : ℕ → ℕ) (k : ℕ) → nth_discovered list_feeds result instants k ≡ in_list answers.now k }
     {
         ListFeed { answers, next: 0 }
     }
@@ -37,12 +38,42 @@ impl<K: Key, S: Copy, F: Copy> Discover for ListFeed<'_, K, S, F> {
 }
 
 impl<K: Copy, S: Copy, F: Copy> Discovered<K, S, F> {
-    // The number of a fault; the other answers have none, so it is no conversion.
+    /// The number of a fault, 12; the other answers have none.
     pub fn number(&self) -> Option<u8>
-        ensures { result ≡ discovered_number self.now }
+        ensures { result ≡ (discovery_report self.now).number }
     {
         match self {
             Discovered::Fault(_) => Some(12),
+            _ => None,
+        }
+    }
+
+    /// The error of a fault.
+    pub fn error(&self) -> Option<F>
+        ensures { result ≡ (discovery_report self.now).error }
+    {
+        match self {
+            Discovered::Fault(error) => Some(*error),
+            _ => None,
+        }
+    }
+
+    /// The key of a worker that comes or goes.
+    pub fn key(&self) -> Option<K>
+        ensures { result ≡ (discovery_report self.now).key }
+    {
+        match self {
+            Discovered::Insert(key, _) | Discovered::Remove(key) => Some(*key),
+            _ => None,
+        }
+    }
+
+    /// The worker that comes.
+    pub fn service(&self) -> Option<S>
+        ensures { result ≡ (discovery_report self.now).worker }
+    {
+        match self {
+            Discovered::Insert(_, service) => Some(*service),
             _ => None,
         }
     }

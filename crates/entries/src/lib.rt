@@ -24,8 +24,10 @@ pub fn ask<K: Copy, S: Endpoint>(
     i: usize,
     at: u64,
 ) -> Result<bool, Failed<K, S::Error>>
-    ensures answer { result ≡ by_some (item_at items.old i) (Ok false) (λ e. told e (S.means.polled e.endpoint at).answer) }
-    ensures after { items.new ≡ by_some (item_at items.old i) items.old (λ e. slice_set items.old i (holding e (S.means.polled e.endpoint at).after)) }
+    ensures answer { result ≡ by_some (item_at items.old i) (Ok false)
+        (λ e. told e (S.means.polled e.endpoint at).answer) }
+    ensures after { items.new ≡ by_some (item_at items.old i) items.old
+        (λ e. slice_set items.old i (holding e (S.means.polled e.endpoint at).after)) }
 {
     if i >= items.len() {
         return Ok(false);
@@ -47,8 +49,14 @@ pub fn call<K: Copy, S: Endpoint>(
     request: S::Request,
     at: u64,
 ) -> Result<S::Response, CallRefusal>
-    ensures answer { result ≡ by_some (item_at items.old i) (Err NotReady) (λ e. by_some (refused_by S.means e.endpoint) (Ok (S.means.accepted e.endpoint request at).answer) (λ x. Err (as_call x))) }
-    ensures after { items.new ≡ by_some (item_at items.old i) items.old (λ e. by_some (refused_by S.means e.endpoint) (slice_set items.old i (holding e (S.means.accepted e.endpoint request at).after)) (λ _. items.old)) }
+    ensures answer { result ≡ by_some (item_at items.old i) (Err NotReady)
+        (λ e. by_some (refused_by S.means e.endpoint)
+        (Ok (S.means.accepted e.endpoint request at).answer)
+        (λ x. Err (as_call x))) }
+    ensures after { items.new ≡ by_some (item_at items.old i) items.old
+        (λ e. by_some (refused_by S.means e.endpoint)
+        (slice_set items.old i (holding e (S.means.accepted e.endpoint request at).after))
+        (λ _. items.old)) }
 {
     if i >= items.len() {
         return Err(CallRefusal::NotReady);
@@ -59,8 +67,10 @@ pub fn call<K: Copy, S: Endpoint>(
 
 // Reads the weight of the entry at a place.
 pub fn load<K: Copy, S: Endpoint>(items: &mut [Entry<K, S>], i: usize, at: u64) -> Option<S::Metric>
-    ensures answer { result ≡ by_some (item_at items.old i) None (λ e. Some (S.means.weight e.endpoint at)) }
-    ensures after { items.new ≡ by_some (item_at items.old i) items.old (λ e. slice_set items.old i (holding e (S.means.loaded e.endpoint at))) }
+    ensures answer { result ≡ by_some (item_at items.old i) None
+        (λ e. Some (S.means.weight e.endpoint at)) }
+    ensures after { items.new ≡ by_some (item_at items.old i) items.old
+        (λ e. slice_set items.old i (holding e (S.means.loaded e.endpoint at))) }
 {
     if i >= items.len() {
         return None;

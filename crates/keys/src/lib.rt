@@ -3,3 +3,5 @@
 
 pub mod name;
 pub mod naming;
+#[cfg(test)]
+mod tests;

@@ -1,5 +1,5 @@
 -- The endpoint over a bare service, weighed by response time.
-use Rattle.std.specs.Prelude.{◌≡◌, ℕ, cond, Ok, Err, Result, to_bits, refl, Float}
+use Rattle.std.specs.Prelude.{◌≡◌, ℕ, ◌^◌, ◌<◌, T, cond, Ok, Err, Result, to_bits, refl, Float}
 use Rattle.std.proofs.Common.{ap}
 use Rattle.std.specs.Float.{binary64}
 use Rattle.model.specs.Outcome.{Outcome, outcome}
@@ -16,6 +16,7 @@ use Rattle.ewma.specs.declared.rtt_estimate.RttEstimate.{RttEstimate}
 use Rattle.peak_ewma.specs.declared.peak_ewma.PeakEwma.{PeakEwma}
 use Rattle.peak_ewma.specs.declared.settings.Settings.{Settings}
 use Rattle.peak_ewma.specs.Durations.{some_zero}
+use Rattle.ewma.specs.Costs.{costs}
 use Rattle.ewma.specs.Estimates.{estimate_from, updated}
 
 module _ {S D : Type 0} where
@@ -42,6 +43,10 @@ module _ {S D : Type 0} where
 
   abbrev pub with_estimate : PeakEwma S D → RttEstimate → PeakEwma S D
   with_estimate p e = record p { rtt_bits = to_bits binary64 e.rtt_ns; update_at = e.update_at }
+
+  -- the weight that the estimate of the last update has, with the requests that are out now
+  abbrev pub last_weight : PeakEwma S D → Cost
+  last_weight p = record { nanos = cost (estimate_of p).rtt_ns p.pending.count }
 
   module _ (decays : Decays D) where
     -- the estimate after a response at an instant to what was sent at another
@@ -87,3 +92,7 @@ module _ {S D : Type 0} where
         loaded_count = λ p at. refl;
         loaded_weight = weighed_again;
       }
+
+-- with the requests that are out, no endpoint over a service S is heavier after a reading than before it
+pub record NoReadingWeighsMore (S : Type 0) {D : Type 0} (decays : Decays D) : Type 0 where
+  pub at_most : (p : PeakEwma S D) (at : ℕ) → p.pending.count < 2 ^ 32 → T (costs.not_heavier (weighed decays p at) (last_weight p))

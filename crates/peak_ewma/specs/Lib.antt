@@ -1,4 +1,3 @@
 pub mod Durations
 pub mod Endpoint
 pub mod Feed
-pub mod Cases

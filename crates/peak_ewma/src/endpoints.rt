@@ -1,6 +1,7 @@
 // The endpoint over a bare service.
-ghost use Rattle.std.specs.Prelude.{◌≡◌};
-ghost use Rattle.peak_ewma.specs.Endpoint.{started, made, estimate_of, observed, peak_ewma};
+ghost use Rattle.std.specs.Prelude.{◌≡◌, IfErr};
+ghost use Rattle.service.specs.Numbers.{invalid_number};
+ghost use Rattle.peak_ewma.specs.Endpoint.{started, made, estimate_of, observed, NoReadingWeighsMore, peak_ewma};
 
 use crate::peak_ewma::PeakEwma;
 use crate::settings::Settings;
@@ -15,9 +16,12 @@ use service::{Endpoint, Service};
 use std::num::{f64_to_bits_with_nan, nearest_u64_to_f64};
 
 impl<S: Copy, D: Decay> PeakEwma<S, D> {
-    // An endpoint with no requests out whose estimate is the default, updated at `at`; no duration may be zero.
+    /// An endpoint with no requests out whose estimate is the default, updated at `at`; a duration of zero is refused.
+    #[tactic(auto, using(crate::proofs::Readings::weighs_no_more))]
     pub fn new(service: S, settings: Settings<D>, at: u64) -> Result<Self, Invalid>
-        ensures { result ≡ made service settings at }
+        ensures answer { result ≡ made service settings at }
+        ensures number { IfErr result (λ e. invalid_number e ≡ 13) }
+        ensures readings { NoReadingWeighsMore S D.decays }
     {
         settings.check()?;
         Ok(PeakEwma::started(service, settings, at))

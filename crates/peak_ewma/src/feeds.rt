@@ -1,5 +1,6 @@
 // The feed of endpoints over a feed of bare services.
-ghost use Rattle.std.specs.Prelude.{◌≡◌};
+ghost use Rattle.std.specs.Prelude.{◌≡◌, IfErr};
+ghost use Rattle.service.specs.Numbers.{invalid_number};
 ghost use Rattle.peak_ewma.specs.Feed.{feed_made, ewma_feeds};
 
 use crate::peak_ewma::PeakEwma;
@@ -12,9 +13,10 @@ use service::Service;
 use service::refusal::Invalid;
 
 impl<F: Discover + Drop, D: Decay> PeakEwmaDiscover<F, D> {
-    // A feed that makes each new endpoint with these settings; no duration may be zero.
+    /// A feed that makes each new endpoint with these settings; a duration of zero is refused.
     pub fn new(discover: F, settings: Settings<D>) -> Result<Self, Invalid>
-        ensures { result ≡ feed_made discover settings }
+        ensures answer { result ≡ feed_made discover settings }
+        ensures number { IfErr result (λ e. invalid_number e ≡ 13) }
     {
         settings.check()?;
         Ok(PeakEwmaDiscover { discover, settings })

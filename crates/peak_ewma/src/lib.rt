@@ -1,7 +1,6 @@
 // Response time as weight: an endpoint over any bare service, and a feed of such endpoints (tower: load/peak_ewma).
 #![tactic(auto)]
 
-pub mod cases;
 pub mod endpoints;
 pub mod feeds;
 pub mod peak_ewma;

@@ -1,7 +1,8 @@
 -- The steps of a pass that moves what stays to the front of the same list.
-use Rattle.std.proofs.Common.{◌≡◌, ℕ, ◌+◌, ◌<◌, ◌≤◌, Bool, true, false, cond, List, [], ◌∷◌, ◌++◌, length, get_or, take, drop, set, Some, None, Ok, Err, Option, Result, sym, refl, ap, ◌∙◌, subst, arith}
+use Rattle.std.proofs.Common.{◌≡◌, ℕ, ◌+◌, ◌-◌, ◌<◌, ◌≤◌, Bool, true, false, cond, List, [], ◌∷◌, ◌++◌, length, get_or, take, drop, set, Some, None, Ok, Err, Option, Result, sym, refl, ap, ap₂, ◌∙◌, subst, arith}
 use Rattle.std.proofs.lemmas.List.{get_or_default, length-set, drop_more, drop-set-lt, take-set-le, take_more_set, get_or-set_same}
 use Rattle.std.proofs.lemmas.Bool.{cond-true, cond-false}
+use Rattle.std.specs.Result.{is_ok}
 use Rattle.model.specs.Options.{by_some}
 use Rattle.model.specs.Lists.{at}
 use Rattle.model.proofs.Lists.{at_getD}
@@ -14,11 +15,11 @@ use Rattle.cache_model.specs.declared.error.PendingError.{PendingError}
 use Rattle.cache_model.specs.declared.error.PendingError.TheVariants as error
 use Rattle.cache_model.specs.Answers.{by_readiness}
 use Rattle.cache_model.specs.Entries.{holding, promote}
-use Rattle.cache_model.specs.Cache.{Question, asking_first, pass, has_place}
+use Rattle.cache_model.specs.Cache.{Question, Passed, asking_first, pass, has_place}
 use Rattle.entries.specs.Asking.{told}
 use Rattle.ready_cache.proofs.Steps.{pick_ready, pick_pending, pick_failed}
 use Rattle.ready_cache.specs.declared.places.Places.{Places}
-use Rattle.ready_cache.specs.Passing.{over, kept, Turned, Promoted, Refused, Ended, ended, left_of, Went, Ends}
+use Rattle.ready_cache.specs.Passing.{over, kept, Turned, Promoted, Refused, Admitted}
 
 -- what stands from a place on
 drop_here : {A : Type 0} (xs : List A) (i : ℕ) (x : A) → i < length xs → x ≡ get_or xs i x → drop i xs ≡ x ∷ drop (i + 1) xs
@@ -105,6 +106,28 @@ module _ {K S Q A E W : Type 0} (ends : Endpoints S Q A E W) (now : ℕ) (xs : L
 pub turned_as : {K S Q A E W : Type 0} (ends : Endpoints S Q A E W) (now : ℕ) {xs ys : List (Entry K S)} {p q : Places} {o o' : Option (Entry K S)} → o ≡ o' → Turned ends now xs p (Ok o) ys q → Turned ends now xs p (Ok o') ys q
 turned_as ends now {xs} {ys} {p} {q} h d = subst (λ z. Turned ends now xs p (Ok z) ys q) h d
 
+-- how a pass ends, apart from its questions
+pub record Ended (K S E : Type 0) : Type 0 where
+  pub ready : List (Entry K S)
+  pub kept : List (Entry K S)
+  pub rest : List (Entry K S)
+  pub fault : Option (PendingError K E)
+
+abbrev pub ended : {K S E : Type 0} → Passed K S E → Ended K S E
+ended p = record { ready = p.ready; kept = p.kept; rest = p.rest; fault = p.fault }
+
+abbrev pub fault_of : {E : Type 0} → Result (Unit {0}) E → Option E
+fault_of (Ok u) = None
+fault_of (Err x) = Some x
+
+pub on_ok : {E : Type 0} {b : Bool} (r : Result (Unit {0}) E) → b ≡ is_ok r → b ≡ true → r ≡ Ok tt
+on_ok (Ok u) e h = refl
+on_ok (Err x) e h = cc
+
+pub fault_none : {E : Type 0} {b : Bool} (r : Result (Unit {0}) E) → b ≡ is_ok r → b ≡ false → fault_of r ≡ None → ⊥
+fault_none (Ok u) e h n = cc
+fault_none (Err x) e h n = cc
+
 -- where a turn leaves the places
 abbrev pub Placed : {K S E : Type 0} → Places → Places → Result (Option (Entry K S)) (Failure K E) → Type 0
 Placed p q (Ok None) = (q.ready ≡ p.ready) × (q.read ≡ p.read + 1) × (q.write ≤ p.write + 1)
@@ -122,16 +145,26 @@ module _ {K S Q A E W : Type 0} (ends : Endpoints S Q A E W) (now : ℕ) where
   placed xs ys p q r d = let e = d.who in rw (d.told, d.places) (placed_by p e (holding e (ends.polled e.endpoint now).after) e.cancelled (ends.polled e.endpoint now).answer)
 
 module _ {K S Q A E W : Type 0} (keys : Sameness K) (ends : Endpoints S Q A E W) (now : ℕ) where
+  -- what is left of a pass over ys that has come to these places, where xs is the memory of the ready ones
+  abbrev pub left_of : List (Entry K S) → List (Entry K S) → Places → Ended K S E
+  left_of xs ys p = ended (pass keys ends now (length xs) (take p.ready xs) (take p.write ys) (drop p.read ys))
+
+  -- a pass that a fault ended there
   abbrev stopped : List (Entry K S) → List (Entry K S) → Places → PendingError K E → Ended K S E
   stopped xs ys q x = record { ready = take q.ready xs; kept = take q.write ys; rest = drop q.read ys; fault = Some x }
 
+  -- what comes of a pass that is there with this result
+  abbrev pub comes_to : List (Entry K S) → List (Entry K S) → Places → Result (Unit {0}) (PendingError K E) → Ended K S E
+  comes_to xs ys p (Ok u) = left_of xs ys p
+  comes_to xs ys p (Err x) = stopped xs ys p x
+
   -- what is left of a pass after a turn
   abbrev pub goes_on : List (Entry K S) → List (Entry K S) → Places → Result (Option (Entry K S)) (Failure K E) → Ended K S E
-  goes_on xs ys q (Ok None) = left_of keys ends now xs ys q
+  goes_on xs ys q (Ok None) = left_of xs ys q
   goes_on xs ys q (Ok (Some e)) =
       cond (has_place keys (length xs) (take q.ready xs) e.key)
       (ended (pass keys ends now (length xs) (promote keys e (take q.ready xs)) (take q.write ys) (drop (q.read + 1) ys)))
-      (stopped xs ys q (error.NoPlace e.key))
+      (stopped xs ys q (error.NoPlace (record { key = e.key })))
   goes_on xs ys q (Err f) = stopped xs ys q (error.Failed f)
 
   module _ (xs ys : List (Entry K S)) (p : Places) (behind : p.write ≤ p.read) (more : p.read < length ys) (e : Entry K S) where
@@ -150,28 +183,28 @@ module _ {K S Q A E W : Type 0} (keys : Sameness K) (ends : Endpoints S Q A E W)
         ap (λ z. f ∷ z) (rest_kept f) ∙ sym (drop_here (set ys p.read f) p.read f l (sym (get_or-set_same ys p.read f f more)))
 
     by_place : (f : Entry K S) (b : Bool) →
-        ended (cond b (pass keys ends now (length xs) (promote keys f (take p.ready xs)) (take p.write ys) rest) (record { ready = take p.ready xs; kept = take p.write ys; rest = f ∷ rest; fault = Some (error.NoPlace e.key); asked = [] }))
-        ≡ cond b (ended (pass keys ends now (length xs) (promote keys f (take p.ready xs)) (take p.write (set ys p.read f)) (drop (p.read + 1) (set ys p.read f)))) (stopped xs (set ys p.read f) p (error.NoPlace e.key))
+        ended (cond b (pass keys ends now (length xs) (promote keys f (take p.ready xs)) (take p.write ys) rest) (record { ready = take p.ready xs; kept = take p.write ys; rest = f ∷ rest; fault = Some (error.NoPlace (record { key = e.key })); asked = [] }))
+        ≡ cond b (ended (pass keys ends now (length xs) (promote keys f (take p.ready xs)) (take p.write (set ys p.read f)) (drop (p.read + 1) (set ys p.read f)))) (stopped xs (set ys p.read f) p (error.NoPlace (record { key = e.key })))
     by_place f true =
         ap (λ z. ended (pass keys ends now (length xs) (promote keys f (take p.ready xs)) z rest)) (front_kept f)
         ∙ ap (λ z. ended (pass keys ends now (length xs) (promote keys f (take p.ready xs)) (take p.write (set ys p.read f)) z)) (rest_kept f)
     by_place f false =
-        ap (λ z. record { ready = take p.ready xs; kept = z; rest = f ∷ rest; fault = Some (error.NoPlace e.key) }) (front_kept f)
-        ∙ ap (λ z. record { ready = take p.ready xs; kept = take p.write (set ys p.read f); rest = z; fault = Some (error.NoPlace e.key) }) (asked_here f)
+        ap (λ z. record { ready = take p.ready xs; kept = z; rest = f ∷ rest; fault = Some (error.NoPlace (record { key = e.key })) }) (front_kept f)
+        ∙ ap (λ z. record { ready = take p.ready xs; kept = take p.write (set ys p.read f); rest = z; fault = Some (error.NoPlace (record { key = e.key })) }) (asked_here f)
 
     by_turn : (f : Entry K S) (question : Question E) (b : Bool) (a : Readiness E) → f.key ≡ e.key →
         ended (cond b (pass keys ends now (length xs) (take p.ready xs) (take p.write ys) rest)
         (asking_first question (by_readiness a
         (cond (has_place keys (length xs) (take p.ready xs) e.key)
         (pass keys ends now (length xs) (promote keys f (take p.ready xs)) (take p.write ys) rest)
-        (record { ready = take p.ready xs; kept = take p.write ys; rest = f ∷ rest; fault = Some (error.NoPlace e.key); asked = [] }))
+        (record { ready = take p.ready xs; kept = take p.write ys; rest = f ∷ rest; fault = Some (error.NoPlace (record { key = e.key })); asked = [] }))
         (pass keys ends now (length xs) (take p.ready xs) (take p.write ys ++ (f ∷ [])) rest)
         (λ x. record { ready = take p.ready xs; kept = take p.write ys; rest = rest; fault = Some (error.Failed (record { key = e.key; error = x })); asked = [] }))))
         ≡ goes_on xs (cond b ys (by_readiness a (set ys p.read f) (set (set ys p.read f) p.write f) (λ _. set ys p.read f))) (cond b (over p) (by_readiness a p (kept p) (λ _. over p))) (cond b (Ok None) (by_readiness a (Ok (Some f)) (Ok None) (λ x. Err (record { key = e.key; error = x }))))
     by_turn f question true a k = refl
     by_turn f question false Ready k =
         by_place f (has_place keys (length xs) (take p.ready xs) e.key)
-        ∙ ap (λ z. cond (has_place keys (length xs) (take p.ready xs) z) (ended (pass keys ends now (length xs) (promote keys f (take p.ready xs)) (take p.write (set ys p.read f)) (drop (p.read + 1) (set ys p.read f)))) (stopped xs (set ys p.read f) p (error.NoPlace z))) (sym k)
+        ∙ ap (λ z. cond (has_place keys (length xs) (take p.ready xs) z) (ended (pass keys ends now (length xs) (promote keys f (take p.ready xs)) (take p.write (set ys p.read f)) (drop (p.read + 1) (set ys p.read f)))) (stopped xs (set ys p.read f) p (error.NoPlace (record { key = z })))) (sym k)
     by_turn f question false Pending k =
         let zs = set ys p.read f in
         let l : p.write < length zs = simp length-set (omega arith) in
@@ -181,7 +214,7 @@ module _ {K S Q A E W : Type 0} (keys : Sameness K) (ends : Endpoints S Q A E W)
         ap (λ z. record { ready = take p.ready xs; kept = z; rest = rest; fault = Some (error.Failed (record { key = e.key; error = x })) }) (front_kept f)
         ∙ ap (λ z. record { ready = take p.ready xs; kept = take p.write (set ys p.read f); rest = z; fault = Some (error.Failed (record { key = e.key; error = x })) }) (rest_kept f)
 
-  pub turn_left : (xs ys zs : List (Entry K S)) (p q : Places) (r : Result (Option (Entry K S)) (Failure K E)) → p.write ≤ p.read → p.read < length ys → Turned ends now ys p r zs q → left_of keys ends now xs ys p ≡ goes_on xs zs q r
+  pub turn_left : (xs ys zs : List (Entry K S)) (p q : Places) (r : Result (Option (Entry K S)) (Failure K E)) → p.write ≤ p.read → p.read < length ys → Turned ends now ys p r zs q → left_of xs ys p ≡ goes_on xs zs q r
   turn_left xs ys zs p q r behind more d =
       let e = d.who in
       let left = ends.polled e.endpoint now in
@@ -192,95 +225,118 @@ module _ {K S Q A E W : Type 0} (keys : Sameness K) (ends : Endpoints S Q A E W)
 
   -- ---- the pass
 
-  pub ends_as : {xs ys xs' ys' : List (Entry K S)} {p q : Places} {r r' : Result (Unit {0}) (PendingError K E)} → r ≡ r' → Ends keys ends now xs ys xs' ys' p q r → Ends keys ends now xs ys xs' ys' p q r'
-  ends_as {xs} {ys} {xs'} {ys'} {p} {q} h d = subst (λ z. Ends keys ends now xs ys xs' ys' p q z) h d
+  -- a pass went on from the places p to q, in memory xs and ys that is now xs' and ys'
+  pub record Went (xs ys xs' ys' : List (Entry K S)) (p q : Places) : Type 0 where
+    pub behind : q.write ≤ q.read
+    pub within : q.read ≤ length ys
+    pub fits : q.ready ≤ length xs
+    pub roomy : q.ready + q.write + (length ys - q.read) ≤ p.ready + p.write + (length ys - p.read)
+    pub ready_long : length xs' ≡ length xs
+    pub pending_long : length ys' ≡ length ys
 
-  module _ {xs ys xs' ys' : List (Entry K S)} {p₀ p : Places} (now_at : Went keys ends now xs ys xs' ys' p₀ p) (same : left_of keys ends now xs' ys' p ≡ left_of keys ends now xs ys p₀) where
-    module _ (more : p.read < length ys) {zs : List (Entry K S)} {q : Places} (as_long : length zs ≡ length ys') where
-      goes : (r : Result (Option (Entry K S)) (Failure K E)) → Turned ends now ys' p r zs q → goes_on xs' zs q r ≡ left_of keys ends now xs ys p₀
+  -- it is there with this result, and what comes of it is what would have come of it at p
+  pub record Came (xs ys xs' ys' : List (Entry K S)) (p q : Places) (r : Result (Unit {0}) (PendingError K E)) : Type 0 where
+    pub went : Went xs ys xs' ys' p q
+    pub same : comes_to xs' ys' q r ≡ left_of xs ys p
+
+  pub came_as : {xs ys xs' ys' : List (Entry K S)} {p q : Places} {r r' : Result (Unit {0}) (PendingError K E)} → r ≡ r' → Came xs ys xs' ys' p q r → Came xs ys xs' ys' p q r'
+  came_as {xs} {ys} {xs'} {ys'} {p} {q} h d = subst (λ z. Came xs ys xs' ys' p q z) h d
+
+  -- how many turns are left, and one more for the result
+  abbrev pub turns_left : ℕ → Places → Result (Unit {0}) (PendingError K E) → ℕ
+  turns_left end p (Ok u) = (end - p.read) + 1
+  turns_left end p (Err x) = 0
+
+  -- the places that a turn left, of an entry that is ready
+  same_places : {xs ys : List (Entry K S)} {p q : Places} {e : Entry K S} → Turned ends now xs p (Ok (Some e)) ys q → q ≡ p
+  same_places {xs} {ys} {p} {q} {e} d = placed ends now xs ys p q (Ok (Some e)) d
+
+  -- after a turn that was taken up, fewer are left
+  pub nearer : (end : ℕ) (xs ys zs ws : List (Entry K S)) (p q n : Places) (t : Result (Option (Entry K S)) (Failure K E)) (r : Result (Unit {0}) (PendingError K E)) → p.read < end → Turned ends now ys p t zs q → Admitted keys t xs q r ws n → turns_left end n r < (end - p.read) + 1
+  nearer end xs ys zs ws p q n (Ok None) (Ok u) more d t =
+      let at = placed ends now ys zs p q (Ok None) d in
+      let b : n.read ≡ p.read + 1 = ap (λ z. z.read) t.2 ∙ at.1 in
+      omega arith
+  nearer end xs ys zs ws p q n (Ok (Some x)) (Ok u) more d t =
+      let b : q.read ≡ p.read = ap (λ z. z.read) (same_places d) in
+      omega (arith, t.1)
+  nearer end xs ys zs ws p q n (Err f) (Ok u) more d t = cc (t.0)
+  nearer end xs ys zs ws p q n t (Err y) more d h = omega arith
+
+  module _ {xs ys xs' ys' : List (Entry K S)} {p₀ p : Places} (now_at : Went xs ys xs' ys' p₀ p) where
+    went_on : {ws zs : List (Entry K S)} {n : Places} → length ws ≡ length xs' → length zs ≡ length ys' → n.write ≤ n.read → n.read ≤ length ys → n.ready ≤ length xs → n.ready + n.write + (length ys - n.read) ≤ p.ready + p.write + (length ys - p.read) → Went xs ys ws zs p₀ n
+    went_on wide as_long a b c d = record {
+      behind = a;
+      within = b;
+      fits = c;
+      roomy = omega (arith, now_at.roomy, d);
+      ready_long = wide ∙ now_at.ready_long;
+      pending_long = as_long ∙ now_at.pending_long;
+    }
+
+    module _ (same : left_of xs' ys' p ≡ left_of xs ys p₀) (more : p.read < length ys) {zs : List (Entry K S)} {q : Places} (as_long : length zs ≡ length ys') where
+      goes : (r : Result (Option (Entry K S)) (Failure K E)) → Turned ends now ys' p r zs q → goes_on xs' zs q r ≡ left_of xs ys p₀
       goes r d = sym (turn_left xs' ys' zs p q r now_at.behind (omega (arith, now_at.pending_long)) d) ∙ same
 
-      -- the next one left or stayed
-      pub step_none : Turned ends now ys' p (Ok None) zs q → Went keys ends now xs ys xs' zs p₀ q × (left_of keys ends now xs' zs q ≡ left_of keys ends now xs ys p₀) × (q.read ≡ p.read + 1)
-      step_none d =
-          let at = placed ends now ys' zs p q (Ok None) d in (
+      module _ {ws : List (Entry K S)} {n : Places} (wide : length ws ≡ length xs') where
+        -- the next one left or stayed
+        came_on : Turned ends now ys' p (Ok None) zs q → ws ≡ xs' → n ≡ q → Came xs ys ws zs p₀ n (Ok tt)
+        came_on d w h =
+            let at = placed ends now ys' zs p q (Ok None) d in
+            let a : n.ready ≡ p.ready = ap (λ z. z.ready) h ∙ at.0 in
+            let b : n.read ≡ p.read + 1 = ap (λ z. z.read) h ∙ at.1 in
+            let c : n.write ≡ q.write = ap (λ z. z.write) h in
             record {
-              behind = omega (arith, now_at.behind, at.1, at.2);
-              within = omega (arith, at.1);
-              fits = omega (arith, now_at.fits, at.0);
-              roomy = omega (arith, now_at.roomy, at.0, at.1, at.2);
-              ready_long = now_at.ready_long;
-              pending_long = as_long ∙ now_at.pending_long;
-            },
-            goes (Ok None) d,
-            at.1,
-          )
+              went = went_on wide as_long (omega (arith, now_at.behind, at.2)) (omega arith) (omega (arith, now_at.fits)) (omega (arith, at.2));
+              same = ap₂ (λ x z. left_of x zs z) w h ∙ goes (Ok None) d;
+            }
 
-      -- it failed
-      pub step_failed : {f : Failure K E} → Turned ends now ys' p (Err f) zs q → Ends keys ends now xs ys xs' zs p₀ q (Err (error.Failed f))
-      step_failed {f} d =
-          let at : q ≡ over p = placed ends now ys' zs p q (Err f) d in
-          let a : q.ready ≡ p.ready = ap (λ z. z.ready) at in
-          let b : q.read ≡ p.read + 1 = ap (λ z. z.read) at in
-          let c : q.write ≡ p.write = ap (λ z. z.write) at in
-          record {
-            went = record {
-              behind = omega (arith, now_at.behind);
-              within = omega arith;
-              fits = omega (arith, now_at.fits);
-              roomy = omega (arith, now_at.roomy);
-              ready_long = now_at.ready_long;
-              pending_long = as_long ∙ now_at.pending_long;
-            };
-            done = λ h. cc;
-            same = sym (goes (Err f) d);
-          }
-
-      module _ {e : Entry K S} (d : Turned ends now ys' p (Ok (Some e)) zs q) where
-        same_places : q ≡ p
-        same_places = placed ends now ys' zs p q (Ok (Some e)) d
+        -- it failed
+        came_failed : {f : Failure K E} → Turned ends now ys' p (Err f) zs q → ws ≡ xs' → n ≡ q → Came xs ys ws zs p₀ n (Err (error.Failed f))
+        came_failed {f} d w h =
+            let at : q ≡ over p = placed ends now ys' zs p q (Err f) d in
+            let a : n.ready ≡ p.ready = ap (λ z. z.ready) (h ∙ at) in
+            let b : n.read ≡ p.read + 1 = ap (λ z. z.read) (h ∙ at) in
+            let c : n.write ≡ p.write = ap (λ z. z.write) (h ∙ at) in
+            record {
+              went = went_on wide as_long (omega (arith, now_at.behind)) (omega arith) (omega (arith, now_at.fits)) (omega arith);
+              same = ap₂ (λ x z. stopped x zs z (error.Failed f)) w h ∙ goes (Err f) d;
+            }
 
         -- it joined the ready ones
-        pub step_ready : {ws : List (Entry K S)} {n : ℕ} → length ws ≡ length xs' → Promoted keys e xs' q.ready ws n → let next : Places = record { ready = n; read = q.read + 1; write = q.write } in Went keys ends now xs ys ws zs p₀ next × (left_of keys ends now ws zs next ≡ left_of keys ends now xs ys p₀) × (q.read ≡ p.read)
-        step_ready {ws} {n} as_wide t =
-            let a : q.ready ≡ p.ready = ap (λ z. z.ready) same_places in
-            let b : q.read ≡ p.read = ap (λ z. z.read) same_places in
-            let c : q.write ≡ p.write = ap (λ z. z.write) same_places in
-            let yes_place : has_place keys (length xs') (take q.ready xs') e.key ≡ true = t.place in (
-              record {
-                behind = omega (arith, now_at.behind);
-                within = omega arith;
-                fits = omega (arith, now_at.ready_long, t.within);
-                roomy = omega (arith, now_at.roomy, t.most);
-                ready_long = as_wide ∙ now_at.ready_long;
-                pending_long = as_long ∙ now_at.pending_long;
-              },
-              ap (λ m. ended (pass keys ends now m (take n ws) (take q.write zs) (drop (q.read + 1) zs))) as_wide
+        came_ready : {e : Entry K S} → Turned ends now ys' p (Ok (Some e)) zs q → Promoted keys e xs' q.ready ws n.ready → n.read ≡ q.read + 1 → n.write ≡ q.write → Came xs ys ws zs p₀ n (Ok tt)
+        came_ready {e} d t read write =
+            let a : q.ready ≡ p.ready = ap (λ z. z.ready) (same_places d) in
+            let b : q.read ≡ p.read = ap (λ z. z.read) (same_places d) in
+            let c : q.write ≡ p.write = ap (λ z. z.write) (same_places d) in
+            let yes_place : has_place keys (length xs') (take q.ready xs') e.key ≡ true = t.place in
+            record {
+              went = went_on wide as_long (omega (arith, now_at.behind)) (omega arith) (omega (arith, now_at.ready_long, t.within)) (omega (arith, t.most));
+              same =
+                  ap₂ (λ x y. ended (pass keys ends now (length ws) (take n.ready ws) (take x zs) (drop y zs))) write read
+                  ∙ ap (λ m. ended (pass keys ends now m (take n.ready ws) (take q.write zs) (drop (q.read + 1) zs))) wide
                   ∙ ap (λ z. ended (pass keys ends now (length xs') z (take q.write zs) (drop (q.read + 1) zs))) t.list
                   ∙ sym (cond-true (has_place keys (length xs') (take q.ready xs') e.key) _ _ yes_place)
-                  ∙ goes (Ok (Some e)) d,
-              b,
-            )
+                  ∙ goes (Ok (Some e)) d;
+            }
 
         -- it had no place among them
-        pub step_refused : {ws : List (Entry K S)} {x : PendingError K E} → length ws ≡ length xs' → Refused keys e xs' q.ready ws x → Ends keys ends now xs ys ws zs p₀ q (Err x)
-        step_refused {ws} {x} as_wide t =
-            let a : q.ready ≡ p.ready = ap (λ z. z.ready) same_places in
-            let b : q.read ≡ p.read = ap (λ z. z.read) same_places in
-            let c : q.write ≡ p.write = ap (λ z. z.write) same_places in
+        came_refused : {e : Entry K S} → Turned ends now ys' p (Ok (Some e)) zs q → Refused keys e xs' q.ready ws → n ≡ q → Came xs ys ws zs p₀ n (Err (error.NoPlace (record { key = e.key })))
+        came_refused {e} d t h =
+            let a : n.ready ≡ p.ready = ap (λ z. z.ready) (h ∙ same_places d) in
+            let b : n.read ≡ p.read = ap (λ z. z.read) (h ∙ same_places d) in
+            let c : n.write ≡ p.write = ap (λ z. z.write) (h ∙ same_places d) in
             record {
-              went = record {
-                behind = omega (arith, now_at.behind);
-                within = omega arith;
-                fits = omega (arith, now_at.fits);
-                roomy = omega (arith, now_at.roomy);
-                ready_long = as_wide ∙ now_at.ready_long;
-                pending_long = as_long ∙ now_at.pending_long;
-              };
-              done = λ h. cc;
+              went = went_on wide as_long (omega (arith, now_at.behind)) (omega arith) (omega (arith, now_at.fits)) (omega arith);
               same =
-                  sym (goes (Ok (Some e)) d)
-                  ∙ cond-false (has_place keys (length xs') (take q.ready xs') e.key) _ _ t.place
-                  ∙ ap (stopped xs' zs q) (sym t.fault)
-                  ∙ ap (λ z. stopped z zs q x) (sym t.same);
+                  ap₂ (λ x z. stopped x zs z (error.NoPlace (record { key = e.key }))) t.same h
+                  ∙ sym (cond-false (has_place keys (length xs') (take q.ready xs') e.key) _ _ t.place)
+                  ∙ goes (Ok (Some e)) d;
             }
+
+        -- one turn of the walk: what a turn told was taken up
+        pub came : (t : Result (Option (Entry K S)) (Failure K E)) (r : Result (Unit {0}) (PendingError K E)) → Turned ends now ys' p t zs q → Admitted keys t xs' q r ws n → Came xs ys ws zs p₀ n r
+        came (Ok None) r d t = came_as (sym t.0) (came_on d t.1 t.2)
+        came (Err f) r d t = came_as (sym t.0) (came_failed d t.1 t.2)
+        came (Ok (Some x)) (Ok u) d t = came_ready d t.0 t.1 t.2
+        came (Ok (Some x)) (Err y) d t = came_as (ap Err (sym t.1)) (came_refused d t.0 t.2)

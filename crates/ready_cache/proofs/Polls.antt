@@ -1,5 +1,5 @@
 -- What a pass that ended leaves of the cache.
-use Rattle.std.proofs.Common.{◌≡◌, ℕ, zero, suc, ◌+◌, ◌-◌, ◌<◌, ◌≤◌, min, List, [], ◌∷◌, ◌++◌, length, take, drop, Ok, Err, Result, sym, refl, ap, ap₂, ◌∙◌, ⊎_elim, arith}
+use Rattle.std.proofs.Common.{◌≡◌, ℕ, zero, suc, ◌+◌, ◌-◌, ◌<◌, ◌≤◌, min, List, [], ◌∷◌, ◌++◌, length, take, drop, None, Ok, Err, Result, sym, refl, ap, ap₂, ◌∙◌, subst, ⊎_elim, arith}
 use Rattle.std.specs.List.{copy_within}
 use Rattle.std.proofs.lemmas.List.{length-take-le, length-append, length-drop, drop_all, take-take, take_all, take_at, take-append-le, drop-append-le}
 use Rattle.std.proofs.lemmas.List.Edits.{take-paste}
@@ -12,10 +12,9 @@ use Rattle.cache_model.specs.declared.entry.Entry.{Entry}
 use Rattle.cache_model.specs.declared.error.PendingError.{PendingError}
 use Rattle.cache_model.specs.Cache.{Cache, capacity_of, emptied, pass, poll_pending}
 use Rattle.ready_cache.specs.declared.places.Places.{Places}
-use Rattle.ready_cache.specs.Passing.{Ended, ended, fault_of, Ends}
 use Rattle.ready_cache.specs.declared.cache.ReadyCache.TheInside.{Inside}
 use Rattle.ready_cache.proofs.Views.{seen, shown, Fits}
-use Rattle.ready_cache.proofs.Passes.{ends_as}
+use Rattle.ready_cache.proofs.Passes.{Ended, ended, fault_of, Came, comes_to, came_as}
 
 pub emptied_none : {A : Type 0} (xs : List A) (n : ℕ) → n ≡ 0 → emptied (take n xs) ≡ poll.Ready tt
 emptied_none xs zero h = refl
@@ -58,14 +57,25 @@ module _ {K S Q A E W : Type 0} (keys : Sameness K) (ends : Endpoints S Q A E W)
   abbrev after_of : ℕ → ℕ → Ended K S E → Cache K S
   after_of next capacity p = record { ready = p.ready; pending = p.kept ++ p.rest; next = next; resume = by_some p.fault 0 (λ _. length p.kept); capacity = capacity }
 
-  -- in the memory f of the cache v, a pass from `from` on came to the places q, answered `out` and left xs' and ys' of the two lists
-  module _ (f : Inside K S) {v : Cache K S} {from capacity : ℕ} {xs' ys' : List (Entry K S)} {q : Places} {out res : Result (Unit {0}) (PendingError K E)}
+  -- a pass over the memory f ended at q with the result r: the memory is m then, with xs' and ys' at the front of its lists
+  pub record Stopped (f m : Inside K S) (capacity : ℕ) (xs' ys' : List (Entry K S)) (q : Places) (r : Result (Unit {0}) (PendingError K E)) : Type 0 where
+    pub ready : m.ready.now ≡ xs' ++ drop capacity f.ready.now
+    pub pending : m.pending.now ≡ ys' ++ drop f.pending_count f.pending.now
+    pub next : m.next_serial ≡ f.next_serial
+    pub done : fault_of r ≡ None → length ys' ≤ q.read
+
+  pub stopped_as : {f m m' : Inside K S} {capacity : ℕ} {xs' ys' : List (Entry K S)} {q : Places} {r : Result (Unit {0}) (PendingError K E)} → m ≡ m' → Stopped f m' capacity xs' ys' q r → Stopped f m capacity xs' ys' q r
+  stopped_as {f} {m} {m'} {capacity} {xs'} {ys'} {q} {r} h s = subst (λ z. Stopped f z capacity xs' ys' q r) (sym h) s
+
+  -- in the memory f of the cache v, a pass from `from` on stopped in the memory m with the result `out`
+  module _ (f m : Inside K S) {v : Cache K S} {from capacity : ℕ} {xs' ys' : List (Entry K S)} {q : Places} {out res : Result (Unit {0}) (PendingError K E)}
       (shows : shown f ≡ v)
       (fits : Fits f)
       (bound : capacity ≡ v.capacity)
       (begins : from ≡ min f.resume f.pending_count)
       (was : out ≡ res)
-      (ends_so : Ends keys ends now (take capacity f.ready.now) (take f.pending_count f.pending.now) xs' ys' (start f.ready_count from) q out) where
+      (came : Came keys ends now (take capacity f.ready.now) (take f.pending_count f.pending.now) xs' ys' (start f.ready_count from) q out)
+      (stop : Stopped f m capacity xs' ys' q out) where
     abbrev xs : List (Entry K S)
     xs = f.ready.now
 
@@ -81,8 +91,8 @@ module _ {K S Q A E W : Type 0} (keys : Sameness K) (ends : Endpoints S Q A E W)
     abbrev resume : ℕ
     resume = f.resume
 
-    over : Ends keys ends now (take capacity xs) (take n ys) xs' ys' (start r from) q res
-    over = ends_as keys ends now was ends_so
+    over : Came keys ends now (take capacity xs) (take n ys) xs' ys' (start r from) q res
+    over = came_as keys ends now was came
 
     bound_is : capacity ≡ capacity_of (length xs) (length ys)
     bound_is = bound ∙ ap (λ (c : Cache K S). c.capacity) (sym shows)
@@ -96,13 +106,18 @@ module _ {K S Q A E W : Type 0} (keys : Sameness K) (ends : Endpoints S Q A E W)
     long : length (take n ys) ≡ n
     long = length-take-le n ys (omega arith)
 
+    closes : (out' : Result (Unit {0}) (PendingError K E)) → (fault_of out' ≡ None → length ys' ≤ q.read) → comes_to keys ends now xs' ys' q out' ≡ record { ready = take q.ready xs'; kept = take q.write ys'; rest = drop q.read ys'; fault = fault_of out' }
+    closes (Ok u) h = rw (drop_all q.read ys' (h refl)) refl
+    closes (Err x) h = refl
+
     is : ended (pass keys ends now (capacity_of (length xs) (length ys)) (take r xs) (take resume (take n ys)) (drop resume (take n ys))) ≡ close
     is =
         resumed xs (take n ys) r resume (capacity_of (length xs) (length ys))
         ∙ ap (λ m. ended (pass keys ends now (capacity_of (length xs) (length ys)) (take r xs) (take (min resume m) (take n ys)) (drop (min resume m) (take n ys)))) long
         ∙ ap (λ z. ended (pass keys ends now (capacity_of (length xs) (length ys)) (take r xs) (take z (take n ys)) (drop z (take n ys)))) (sym begins)
         ∙ ap₂ (λ m z. ended (pass keys ends now m z (take from (take n ys)) (drop from (take n ys)))) (sym bound_is ∙ sym wide) (sym (take-take r capacity xs (omega (arith, bound_is))))
-        ∙ over.same
+        ∙ sym over.same
+        ∙ closes res (λ h. stop.done (ap fault_of was ∙ h))
 
     kept_long : q.write ≤ length ys'
     kept_long = omega (arith, over.went.behind, over.went.within, over.went.pending_long)
@@ -114,29 +129,26 @@ module _ {K S Q A E W : Type 0} (keys : Sameness K) (ends : Endpoints S Q A E W)
     abbrev ready_memory : List (Entry K S)
     ready_memory = xs' ++ drop capacity xs
 
-    abbrev pending_memory : List (Entry K S)
-    pending_memory = ys' ++ drop n ys
-
     abbrev left : ℕ
     left = q.write + (n - q.read)
 
-    poll_after : (zs : List (Entry K S)) (resume' : ℕ) → length zs ≡ length pending_memory → zs ≡ copy_within pending_memory q.read n q.write → resume' ≡ by_some (fault_of res) 0 (λ _. q.write) → seen ready_memory zs q.ready left f.next_serial resume' ≡ (poll_pending keys ends now v).after
+    poll_after : (zs : List (Entry K S)) (resume' : ℕ) → length zs ≡ length m.pending.now → zs ≡ copy_within m.pending.now q.read n q.write → resume' ≡ by_some (fault_of res) 0 (λ _. q.write) → seen m.ready.now zs q.ready left m.next_serial resume' ≡ (poll_pending keys ends now v).after
     poll_after zs resume' lz ez hr =
         let w = over.went in
         let lx : length ready_memory ≡ length xs = length-append xs' (drop capacity xs) ∙ ap₂ (λ a b. a + b) (w.ready_long ∙ wide) (length-drop capacity xs) ∙ omega (arith, bound_is) in
-        let ly : length zs ≡ length ys = lz ∙ length-append ys' (drop n ys) ∙ ap₂ (λ a b. a + b) (w.pending_long ∙ long) (length-drop n ys) ∙ omega arith in
+        let ly : length zs ≡ length ys = lz ∙ ap length stop.pending ∙ length-append ys' (drop n ys) ∙ ap₂ (λ a b. a + b) (w.pending_long ∙ long) (length-drop n ys) ∙ omega arith in
         let front : take q.ready ready_memory ≡ take q.ready xs' = take-append-le q.ready xs' (drop capacity xs) (omega (arith, w.fits, w.ready_long)) in
-        let back : take left zs ≡ take q.write ys' ++ drop q.read ys' = ap (take left) ez ∙ closed ys' (drop n ys) n q.read q.write (w.pending_long ∙ long) w.behind (omega (arith, w.within, long)) in
+        let back : take left zs ≡ take q.write ys' ++ drop q.read ys' = ap (take left) (ez ∙ ap (λ z. copy_within z q.read n q.write) stop.pending) ∙ closed ys' (drop n ys) n q.read q.write (w.pending_long ∙ long) w.behind (omega (arith, w.within, long)) in
         let kept : length (take q.write ys') ≡ q.write = length-take-le q.write ys' kept_long in
         let told : seen ready_memory zs q.ready left f.next_serial resume' ≡ (poll_pending keys ends now (shown f)).after =
         rw (lx, ly, front, back)
         (ap (λ z. record { ready = take q.ready xs'; pending = take q.write ys' ++ drop q.read ys'; next = f.next_serial; resume = z; capacity = capacity_of (length xs) (length ys) }) (hr ∙ ap (λ z. by_some (fault_of res) 0 (λ _. z)) (sym kept))
         ∙ ap (after_of f.next_serial (capacity_of (length xs) (length ys))) (sym is)) in
-        told ∙ ap (λ (c : Cache K S). (poll_pending keys ends now c).after) shows
+        ap₂ (λ a b. seen a zs q.ready left b resume') stop.ready stop.next ∙ told ∙ ap (λ (c : Cache K S). (poll_pending keys ends now c).after) shows
 
     -- all three: how long what stays is, what is answered, and what is left
     pub poll_told :
         (q.write ≤ length ys')
         × (answer_of close ≡ (poll_pending keys ends now v).answer)
-        × ((zs : List (Entry K S)) (resume' : ℕ) → length zs ≡ length pending_memory → zs ≡ copy_within pending_memory q.read n q.write → resume' ≡ by_some (fault_of res) 0 (λ _. q.write) → seen ready_memory zs q.ready left f.next_serial resume' ≡ (poll_pending keys ends now v).after)
+        × ((zs : List (Entry K S)) (resume' : ℕ) → length zs ≡ length m.pending.now → zs ≡ copy_within m.pending.now q.read n q.write → resume' ≡ by_some (fault_of res) 0 (λ _. q.write) → seen m.ready.now zs q.ready left m.next_serial resume' ≡ (poll_pending keys ends now v).after)
     poll_told = (kept_long, poll_answer, poll_after)

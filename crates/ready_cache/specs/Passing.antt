@@ -1,5 +1,5 @@
 -- The parts of a pass over the pending entries, in memory.
-use Rattle.std.specs.Prelude.{◌≡◌, ℕ, ◌+◌, ◌-◌, ◌≤◌, true, false, cond, List, length, take, drop, set, Some, None, Ok, Err, Option, Result, slice_index_or, slice_set}
+use Rattle.std.specs.Prelude.{◌≡◌, ℕ, ◌+◌, ◌≤◌, true, false, cond, List, length, take, set, Some, None, Ok, Err, Option, Result, MatchResult, slice_index_or, slice_set}
 use Rattle.service.specs.Meaning.{Sameness, Endpoints}
 use Rattle.cache_model.specs.declared.entry.Entry.{Entry}
 use Rattle.cache_model.specs.declared.error.Failed.{Failed}
@@ -7,7 +7,7 @@ use Rattle.cache_model.specs.declared.error.PendingError.{PendingError}
 use Rattle.cache_model.specs.declared.error.PendingError.TheVariants as error
 use Rattle.cache_model.specs.Answers.{by_readiness}
 use Rattle.cache_model.specs.Entries.{holding, promote}
-use Rattle.cache_model.specs.Cache.{Passed, pass, has_place}
+use Rattle.cache_model.specs.Cache.{has_place}
 use Rattle.ready_cache.specs.declared.places.Places.{Places}
 
 -- the entry that was read is passed over, or stays and is moved to the front
@@ -41,41 +41,15 @@ module _ {K S : Type 0} (keys : Sameness K) where
     pub within : n ≤ length xs
 
   -- e had no place
-  pub record Refused {E : Type 0} (e : Entry K S) (xs : List (Entry K S)) (len : ℕ) (ys : List (Entry K S)) (x : PendingError K E) : Type 0 where
+  pub record Refused (e : Entry K S) (xs : List (Entry K S)) (len : ℕ) (ys : List (Entry K S)) : Type 0 where
     pub place : has_place keys (length xs) (take len xs) e.key ≡ false
-    pub fault : x ≡ error.NoPlace e.key
     pub same : ys ≡ xs
 
--- how a pass ends, apart from its questions
-pub record Ended (K S E : Type 0) : Type 0 where
-  pub ready : List (Entry K S)
-  pub kept : List (Entry K S)
-  pub rest : List (Entry K S)
-  pub fault : Option (PendingError K E)
-
-abbrev pub ended : {K S E : Type 0} → Passed K S E → Ended K S E
-ended p = record { ready = p.ready; kept = p.kept; rest = p.rest; fault = p.fault }
-
-abbrev pub fault_of : {E : Type 0} → Result (Unit {0}) E → Option E
-fault_of (Ok u) = None
-fault_of (Err x) = Some x
-
-module _ {K S Q A E W : Type 0} (keys : Sameness K) (ends : Endpoints S Q A E W) (now : ℕ) where
-  -- what is left of a pass over ys that has come to these places, where xs is the memory of the ready ones
-  abbrev pub left_of : List (Entry K S) → List (Entry K S) → Places → Ended K S E
-  left_of xs ys p = ended (pass keys ends now (length xs) (take p.ready xs) (take p.write ys) (drop p.read ys))
-
-  -- a pass went on from the places p to q, in memory xs and ys that is now xs' and ys'
-  pub record Went (xs ys xs' ys' : List (Entry K S)) (p q : Places) : Type 0 where
-    pub behind : q.write ≤ q.read
-    pub within : q.read ≤ length ys
-    pub fits : q.ready ≤ length xs
-    pub roomy : q.ready + q.write + (length ys - q.read) ≤ p.ready + p.write + (length ys - p.read)
-    pub ready_long : length xs' ≡ length xs
-    pub pending_long : length ys' ≡ length ys
-
-  -- it ended there, with this result
-  pub record Ends (xs ys xs' ys' : List (Entry K S)) (p q : Places) (r : Result (Unit {0}) (PendingError K E)) : Type 0 where
-    pub went : Went xs ys xs' ys' p q
-    pub done : fault_of r ≡ None → length ys ≤ q.read
-    pub same : left_of xs ys p ≡ record { ready = take q.ready xs'; kept = take q.write ys'; rest = drop q.read ys'; fault = fault_of r }
+  -- what a turn answered was taken up, in the memory xs: nothing to do, an entry that is ready, or a worker that failed
+  abbrev pub Admitted : {E : Type 0} → Result (Option (Entry K S)) (Failed K E) → List (Entry K S) → Places → Result (Unit {0}) (PendingError K E) → List (Entry K S) → Places → Type 0
+  Admitted (Ok None) xs p r ys q = (r ≡ Ok tt) × (ys ≡ xs) × (q ≡ p)
+  Admitted (Ok (Some e)) xs p r ys q =
+      MatchResult r
+      (λ _. Promoted e xs p.ready ys q.ready × (q.read ≡ p.read + 1) × (q.write ≡ p.write))
+      (λ x. Refused e xs p.ready ys × (x ≡ error.NoPlace (record { key = e.key })) × (q ≡ p))
+  Admitted (Err x) xs p r ys q = (r ≡ Err (error.Failed x)) × (ys ≡ xs) × (q ≡ p)

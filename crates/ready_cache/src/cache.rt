@@ -3,7 +3,7 @@ ghost use Rattle.std.specs.Prelude.{ℕ};
 use cache_model::entry::Entry;
 use std::marker::Model;
 
-// The ready and the pending workers. Memory is lent and there is no heap, so each list is the front of a slice, and its length stands beside it.
+/// The ready and the pending workers. Memory is lent and there is no heap, so each list is the front of a slice, and its length stands beside it.
 #[derive(Drop)]
 pub struct ReadyCache<'a, K, S> {
     pub(crate) ready: &'a mut [Entry<K, S>],
@@ -29,5 +29,6 @@ impl<'a, K, S> Model for ReadyCache<'a, K, S> {
       capacity = capacity_of (length c.ready.now) (length c.pending.now);
     } };
 
-    ghost invariant = { λ c. c.ready_count + c.pending_count ≤ capacity_of (length c.ready.now) (length c.pending.now) };
+    ghost invariant = { λ c. c.ready_count + c.pending_count
+        ≤ capacity_of (length c.ready.now) (length c.pending.now) };
 }

@@ -1,5 +1,5 @@
 // Taking workers in, and taking them away.
-ghost use Rattle.std.specs.Prelude.{◌≡◌, ◌<◌, OnSome};
+ghost use Rattle.std.specs.Prelude.{◌≡◌, ◌<◌, OnSome, OnErr};
 ghost use Rattle.model.specs.Options.{by_some};
 ghost use Rattle.model.specs.Lists.{at as item_at, swap_remove};
 ghost use Rattle.cache_model.specs.Entries.{set_aside};
@@ -15,7 +15,8 @@ impl<'a, K: Copy, S: Copy> ReadyCache<'a, K, S> {
     // Takes the ready entry at a place away: the last one moves into the gap.
     pub(crate) fn remove(&mut self, i: usize) -> Option<Entry<K, S>>
         ensures answer { result ≡ item_at self.old.ready i }
-        ensures after { self.new ≡ with_lists self.old (swap_remove self.old.ready i) self.old.pending }
+        ensures after { self.new ≡ with_lists self.old
+            (swap_remove self.old.ready i) self.old.pending }
         ensures room { OnSome result (held self.new < self.new.capacity) }
     {
         let entry = lists::swap_remove(&mut self.ready[..self.ready_count], i)?;
@@ -25,10 +26,11 @@ impl<'a, K: Copy, S: Copy> ReadyCache<'a, K, S> {
 }
 
 impl<'a, K: Key, S: Copy> ReadyCache<'a, K, S> {
-    // Takes a worker in, to the end of pending, and cancels the one of its key there; answers its serial.
+    /// Takes a worker in, to the end of pending, and cancels the one of its key there; answers its serial. Refused where the cache is full or its serials are spent: then nothing changes.
     pub fn push(&mut self, key: K, endpoint: S) -> Result<u64, PushError<K>>
         ensures answer { result ≡ (push K.sameness self.old key endpoint).answer }
         ensures after { self.new ≡ (push K.sameness self.old key endpoint).after }
+        ensures refused { OnErr result (self.new ≡ self.old) }
     {
         if self.len() >= self.capacity() {
             return Err(PushError {
@@ -66,7 +68,8 @@ impl<'a, K: Key, S: Copy> ReadyCache<'a, K, S> {
     // Appends an entry that is no longer ready to pending, unless an uncancelled one there has its key.
     fn set_aside(&mut self, entry: Entry<K, S>)
         requires { held self.old < self.old.capacity }
-        ensures { self.new ≡ with_lists self.old self.old.ready (set_aside K.sameness entry self.old.pending) }
+        ensures { self.new ≡ with_lists self.old self.old.ready
+            (set_aside K.sameness entry self.old.pending) }
     {
         if self.pending_contains(&entry.key) {
             return;
@@ -80,7 +83,9 @@ impl<'a, K: Key, S: Copy> ReadyCache<'a, K, S> {
 
     // Moves the ready entry at a place to pending, unless an uncancelled one there has its key.
     pub(crate) fn demote(&mut self, i: usize)
-        ensures { self.new ≡ by_some (item_at self.old.ready i) self.old (λ e. with_lists self.old (swap_remove self.old.ready i) (set_aside K.sameness e self.old.pending)) }
+        ensures { self.new ≡ by_some (item_at self.old.ready i) self.old
+            (λ e. with_lists self.old (swap_remove self.old.ready i)
+            (set_aside K.sameness e self.old.pending)) }
     {
         if let Some(entry) = self.remove(i) {
             self.set_aside(entry);

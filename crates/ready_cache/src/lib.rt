@@ -31,7 +31,8 @@ impl<'a, K: Key, S: Endpoint> ReadyCache<'a, K, S> {
         pending: &'a mut [Entry<K, S>],
         first_serial: u64,
     ) -> Self
-        ensures made { result ≡ new_cache (capacity_of (length ready.old) (length pending.old)) first_serial }
+        ensures made { result ≡ new_cache
+            (capacity_of (length ready.old) (length pending.old)) first_serial }
         ensures lawful { AlwaysLawful K.sameness S.means result }
     {
         ReadyCache {
@@ -149,7 +150,8 @@ impl<'a, K: Key, S: Copy> ReadyCache<'a, K, S> {
 
     // The ready entry of the key.
     pub fn get_ready(&self, key: &K) -> Option<Entry<K, S>>
-        ensures { result ≡ by_some (ready_place K.sameness key.now self.now.ready) None (item_at self.now.ready) }
+        ensures { result ≡ by_some (ready_place K.sameness key.now self.now.ready) None
+            (item_at self.now.ready) }
     {
         self.get_ready_index(self.ready_index(key)?)
     }

@@ -1,12 +1,12 @@
 // A pass over the pending workers: what stays moves to the front of the same list.
-ghost use Rattle.std.specs.Prelude.{◌≡◌, ℕ, ◌+◌, ◌-◌, ◌<◌, ◌≤◌, length, MatchResult, slice_index_or, slice_set};
+ghost use Rattle.std.specs.Prelude.{◌≡◌, ℕ, ◌+◌, ◌-◌, ◌<◌, ◌≤◌, length, IfErr, MatchResult, slice_index_or, slice_set};
 ghost use Rattle.cache_model.specs.Cache.{poll_pending};
-ghost use Rattle.ready_cache.specs.Passing.{Turned, Promoted, Refused, Ends};
+ghost use Rattle.ready_cache.specs.Passing.{Turned, Promoted, Refused, Admitted};
 
 use crate::cache::ReadyCache;
 use crate::places::Places;
 use cache_model::entry::Entry;
-use cache_model::error::{Failed, PendingError};
+use cache_model::error::{Failed, NoPlace, PendingError};
 use entries::position;
 use service::poll::Poll;
 use service::{Endpoint, Key};
@@ -56,9 +56,12 @@ fn promote<K: Key, S: Endpoint>(
     items: &mut [Entry<K, S>],
     len: usize,
     entry: Entry<K, S>,
-) -> Result<usize, PendingError<K, S::Error>>
+) -> Result<usize, NoPlace<K>>
     requires { len ≤ length items.old }
-    ensures { MatchResult result (Promoted K.sameness entry items.old len items.new) (Refused K.sameness entry items.old len items.new) }
+    ensures list { MatchResult result
+        (Promoted K.sameness entry items.old len items.new)
+        (λ _. Refused K.sameness entry items.old len items.new) }
+    ensures fault { IfErr result (λ no_place. no_place.key ≡ entry.key) }
 {
     if let Some(i) = position::of_key(&items[..len], &entry.key) {
         let held = items[i];
@@ -70,34 +73,32 @@ fn promote<K: Key, S: Endpoint>(
         return Ok(len);
     }
     if len >= items.len() {
-        return Err(PendingError::NoPlace(entry.key));
+        return Err(NoPlace { key: entry.key });
     }
     items[len] = entry;
     Ok(len + 1)
 }
 
-// Goes from entry to entry, up to the end or a fault; what is ready joins the first ones of `ready`. (How far it came is in `places`, which the caller reads after a fault too.)
-fn pass<K: Key, S: Endpoint>(
-    ready: &mut [Entry<K, S>],
-    pending: &mut [Entry<K, S>],
+// Takes up what a turn answered: an entry that is ready joins the first ones of `items`, and its place is passed; a worker that failed ends the pass.
+fn admit<K: Key, S: Endpoint>(
+    items: &mut [Entry<K, S>],
     places: &mut Places,
-    at: u64,
+    answer: Result<Option<Entry<K, S>>, Failed<K, S::Error>>,
 ) -> Result<(), PendingError<K, S::Error>>
-    requires { (places.old.write ≤ places.old.read) × ((places.old.read ≤ length pending.old) × (places.old.ready ≤ length ready.old)) }
-    ensures { Ends K.sameness S.means at ready.old pending.old ready.new pending.new places.old places.new result }
+    requires ready_within { places.old.ready ≤ length items.old }
+    requires next_fits { places.old.read < usize.MAX }
+    ensures { Admitted K.sameness answer items.old places.old result items.new places.new }
 {
-    for _next in places.read..pending.len() {
-        let Some(entry) = turn(pending, places, at)? else {
-            continue;
-        };
-        places.ready = promote(ready, places.ready, entry)?;
-        places.read += 1;
-    }
+    let Some(entry) = answer? else {
+        return Ok(());
+    };
+    places.ready = promote(items, places.ready, entry)?;
+    places.read += 1;
     Ok(())
 }
 
 impl<'a, K: Key, S: Endpoint> ReadyCache<'a, K, S> {
-    // Asks the pending workers from the resume place on: those that are ready join the ready list.
+    /// Asks the pending workers from the resume place on, at the instant `at`, up to the end or a fault: those that are ready join the ready list, and those that stay move to the front.
     pub fn poll_pending(&mut self, at: u64) -> Result<Poll<()>, PendingError<K, S::Error>>
         ensures answer { result ≡ (poll_pending K.sameness S.means at self.old).answer }
         ensures after { self.new ≡ (poll_pending K.sameness S.means at self.old).after }
@@ -110,17 +111,19 @@ impl<'a, K: Key, S: Endpoint> ReadyCache<'a, K, S> {
             read: from,
             write: from,
         };
-        let passed = pass(
-            &mut self.ready[..capacity],
-            &mut self.pending[..end],
-            &mut places,
-            at,
-        );
+        let ready = &mut self.ready[..capacity];
+        let pending = &mut self.pending[..end];
+        let mut outcome: Result<(), PendingError<K, S::Error>> = Ok(());
+        while outcome.is_ok() && places.read < pending.len() {
+            let answer = turn(pending, &mut places, at);
+            outcome = admit(ready, &mut places, answer);
+        }
+        // the gap between what stays and what was not come to is closed, after a fault too
         self.pending.copy_within(places.read..end, places.write);
         self.ready_count = places.ready;
         self.pending_count = places.write + (end - places.read);
         self.resume = places.write;
-        passed?;
+        outcome?;
         self.resume = 0;
         if self.pending_count == 0 {
             return Ok(Poll::Ready(()));

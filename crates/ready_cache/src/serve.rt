@@ -1,5 +1,5 @@
 // Asking ready workers, and handing requests to them.
-ghost use Rattle.std.specs.Prelude.{◌≡◌};
+ghost use Rattle.std.specs.Prelude.{◌≡◌, OnErr};
 ghost use Rattle.cache_model.specs.Cache.{check, check_key, call, call_key, finish, load};
 
 use crate::cache::ReadyCache;
@@ -34,7 +34,7 @@ impl<'a, K: Key, S: Endpoint> ReadyCache<'a, K, S> {
         }
     }
 
-    // Hands a request to the ready worker at a place, which is pending from then on.
+    /// Hands a request to the ready worker at a place, at the instant `at`; it is pending from then on. Refused where there is no such worker, or by the worker: then nothing changes.
     pub fn call_ready_index(
         &mut self,
         i: usize,
@@ -43,13 +43,14 @@ impl<'a, K: Key, S: Endpoint> ReadyCache<'a, K, S> {
     ) -> Result<S::Response, CallRefusal>
         ensures answer { result ≡ (call K.sameness S.means at self.old i request).answer }
         ensures after { self.new ≡ (call K.sameness S.means at self.old i request).after }
+        ensures refused { OnErr result (self.new ≡ self.old) }
     {
         let response = entries::call(&mut self.ready[..self.ready_count], i, request, at)?;
         self.demote(i);
         Ok(response)
     }
 
-    // The same by key.
+    /// The same by key.
     pub fn call_ready(
         &mut self,
         key: &K,
@@ -58,6 +59,7 @@ impl<'a, K: Key, S: Endpoint> ReadyCache<'a, K, S> {
     ) -> Result<S::Response, CallRefusal>
         ensures answer { result ≡ (call_key K.sameness S.means at self.old key.now request).answer }
         ensures after { self.new ≡ (call_key K.sameness S.means at self.old key.now request).after }
+        ensures refused { OnErr result (self.new ≡ self.old) }
     {
         let i = self.ready_index(key).ok_or(CallRefusal::NotReady)?;
         self.call_ready_index(i, request, at)

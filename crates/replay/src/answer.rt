@@ -18,7 +18,7 @@ pub enum Answer<E> {
     Checked(Result<bool, Failed<Name, E>>),
 }
 
-// What ended a poll, or refused a push. (A function, as the two below: the types are of other crates, and `Display` cannot stand here for them.)
+// What ended a poll: its number, and the feed's error or the key. (A function, as the two below: the types are of other crates, and `Display` cannot stand here for them.)
 fn write_fault<W: fmt::Write>(
     error: &PollError<Name, u32>,
     f: &mut fmt::Formatter<W>,
@@ -26,8 +26,7 @@ fn write_fault<W: fmt::Write>(
     let number = error.number();
     match error {
         PollError::Discover(error) => write!(f, "fault {number} {error}"),
-        PollError::NoPlace(key) => write!(f, "fault {number} {key}"),
-        PollError::Push(error) => write!(f, "fault {number} {}", error.key),
+        PollError::Cache(error) => write!(f, "fault {number} {}", error.key()),
     }
 }
 
@@ -57,7 +56,7 @@ fn write_pending<E: fmt::Display + Copy, W: fmt::Write>(
 ) -> fmt::Result {
     let number = error.number();
     match error {
-        PendingError::NoPlace(key) => write!(f, "fault {number} {key}"),
+        PendingError::NoPlace(no_place) => write!(f, "fault {number} {}", no_place.key),
         PendingError::Failed(failed) => write!(f, "fault {number} {} {}", failed.key, failed.error),
     }
 }

@@ -1,8 +1,11 @@
 // How the workers of a run are made, called and looked at.
+use anyhow::Context;
 use decay::Decay;
 use ewma::rtt_estimate::RttEstimate;
 use load::pending_requests::PendingRequests;
 use peak_ewma::peak_ewma::PeakEwma;
+use peak_ewma::settings::Settings;
+use service::refusal::Invalid;
 use service::{Endpoint, Service};
 use std::fmt::Display;
 use workers::paced::Paced;
@@ -62,5 +65,47 @@ impl<B: Bare, D: Decay> Worker for PeakEwma<B, D> {
 
     fn rtt_estimate(&self) -> Option<RttEstimate> {
         Some(self.estimate())
+    }
+}
+
+// (In this program's own words, which are the same for every value: see `name` in read.rt.)
+pub fn made<T>(made: Result<T, Invalid>) -> anyhow::Result<T> {
+    made.ok().context("a value is not made")
+}
+
+// How the workers of a run are made that are pushed into its cache.
+pub trait MakeWorker: Copy {
+    type Worker: Worker;
+
+    // A worker with a pattern, made at an instant.
+    fn make_worker(&self, pattern: Patterned, at: u64) -> anyhow::Result<Self::Worker>;
+}
+
+// Makes workers that are weighed by requests out.
+#[derive(Clone, Copy)]
+pub struct PendingRequestsMaker<B> {
+    pub bare: B,
+}
+
+impl<B: Bare> MakeWorker for PendingRequestsMaker<B> {
+    type Worker = PendingRequests<B>;
+
+    fn make_worker(&self, pattern: Patterned, _at: u64) -> anyhow::Result<PendingRequests<B>> {
+        Ok(PendingRequests::new(self.bare.with(pattern)))
+    }
+}
+
+// Makes workers that are weighed by response time.
+#[derive(Clone, Copy)]
+pub struct PeakEwmaMaker<B, D> {
+    pub bare: B,
+    pub settings: Settings<D>,
+}
+
+impl<B: Bare, D: Decay> MakeWorker for PeakEwmaMaker<B, D> {
+    type Worker = PeakEwma<B, D>;
+
+    fn make_worker(&self, pattern: Patterned, at: u64) -> anyhow::Result<PeakEwma<B, D>> {
+        made(PeakEwma::new(self.bare.with(pattern), self.settings, at))
     }
 }

@@ -1,8 +1,7 @@
 // Replays a run, with workers of its kind.
-use crate::kinds::{Bare, Worker};
+use crate::kinds::{Bare, MakeWorker, PeakEwmaMaker, PendingRequestsMaker, Worker, made};
 use crate::router::Replayed;
 use crate::run::{Measure, Run, Source, Workers};
-use anyhow::Context;
 use cache_model::entry::Entry;
 use decay::Decay;
 use discover::Discover;
@@ -17,39 +16,32 @@ use peak_ewma::settings::Settings;
 use rng::Rng;
 use rng::hasher_rng::HasherRng;
 use rng::list_rng::ListRng;
-use service::refusal::Invalid;
 use std::alloc::Global;
 use workers::paced::Paced;
 use workers::patterned::Patterned;
 
-// (In this program's own words, which are the same for every value: see `name` in read.rt.)
-fn made<T>(made: Result<T, Invalid>) -> anyhow::Result<T> {
-    made.ok().context("a value is not made")
-}
-
 impl Run {
-    // Applies the picks to a newly made balancer, cache and docket, and writes after each what it answered and both lists. Memory holds `blank` at first. (That `make` can be called is asked here and where it is handed on: a bound cannot say it.)
+    // Applies the picks to a newly made balancer, cache and docket, and writes after each what it answered and both lists. Memory holds `blank` at first.
     fn replay_feed<D, R, M>(
         &self,
         heap: Global,
         feed: D,
         words: R,
         blank: D::Service,
-        make: M,
+        maker: M,
     ) -> anyhow::Result<String>
     where
         D: Discover<Key = Name, Error = u32> + Drop,
         D::Service: Worker,
         R: Rng + Drop,
-        M: Fn(Patterned, u64) -> anyhow::Result<D::Service>,
-        requires { M.IsAlwaysCallable make }
+        M: MakeWorker<Worker = D::Service>,
     {
         let key = made(Name::new(b"0"))?;
         let mut memory = Memory::new(heap, Entry::new(key, blank, 0), self.places, self.records)?;
         let mut router = Replayed::new(self, feed, words, &mut memory);
         let mut out = String::from_str(heap, "run\n")?;
         for pick in self.picks.iter() {
-            router.apply_and_write(*pick, &make, &mut out)?;
+            router.apply_and_write(*pick, maker, &mut out)?;
         }
         Ok(out)
     }
@@ -71,7 +63,7 @@ impl Run {
             ListFeed::new(answers.as_slice()),
             words,
             PendingRequests::new(bare),
-            |pattern, _at| Ok(PendingRequests::new(bare.with(pattern))),
+            PendingRequestsMaker { bare },
         )
     }
 
@@ -89,15 +81,8 @@ impl Run {
             .map(|answer| answer.map(|pattern| bare.with(pattern)))
             .collect(heap)?;
         let feed = made(PeakEwmaDiscover::new(ListFeed::new(answers.as_slice()), settings))?;
-        let make = |service: B, at: u64| made(PeakEwma::new(service, settings, at));
-        let blank = make(bare, 0)?;
-        self.replay_feed(
-            heap,
-            feed,
-            words,
-            blank,
-            |pattern, at| make(bare.with(pattern), at),
-        )
+        let blank = made(PeakEwma::new(bare, settings, 0))?;
+        self.replay_feed(heap, feed, words, blank, PeakEwmaMaker { bare, settings })
     }
 
     fn replay_words<B: Bare, R: Rng + Drop>(

@@ -1,6 +1,6 @@
 // A run's picks, applied to a balancer with its cache and docket.
 use crate::answer::{Answer, List};
-use crate::kinds::Worker;
+use crate::kinds::{MakeWorker, Worker};
 use crate::run::{CachePick, Chosen, Pick, Run};
 use balance_model::answer::CallError;
 use balance_model::pick;
@@ -10,10 +10,10 @@ use discover::Discover;
 use keys::name::Name;
 use memory::Memory;
 use rng::Rng;
+use runs::opening::Opening;
 use runs::router::Router;
 use service::Endpoint;
 use std::fmt;
-use workers::patterned::Patterned;
 
 // A router of whole runs, whose cache is also called by itself.
 #[derive(Drop)]
@@ -29,68 +29,63 @@ where
 {
     // A new router, in this memory.
     pub fn new(run: &Run, feed: D, words: R, memory: &'a mut Memory<Name, D::Service>) -> Self {
+        let opening = Opening {
+            feed,
+            words,
+            budget: run.budget,
+            first_serial: run.first_serial,
+            first_ticket: run.first_ticket,
+        };
         Replayed {
-            router: Router::new(
-                memory.ready.as_mut_slice(),
-                memory.pending.as_mut_slice(),
-                memory.records.as_mut_slice(),
-                feed,
-                words,
-                run.budget,
-                run.first_serial,
-                run.first_ticket,
-            ),
+            router: Router::new(memory.as_mut_slices(), opening),
         }
     }
 
-    // Applies a pick, and writes what it answered and both lists. (Each function that hands `make` on asks that it can be called: a bound cannot say it.)
+    // Applies a pick, and writes what it answered and both lists.
     pub fn apply_and_write<M>(
         &mut self,
         pick: Pick,
-        make: &M,
+        maker: M,
         out: &mut String,
     ) -> anyhow::Result<()>
     where
-        M: Fn(Patterned, u64) -> anyhow::Result<D::Service>,
-        requires { M.IsAlwaysCallable make.now }
+        M: MakeWorker<Worker = D::Service>,
     {
-        let answer = self.apply(pick, make)?;
+        let answer = self.apply(pick, maker)?;
         writeln!(out, "{answer}{self}")?;
         Ok(())
     }
 
-    // Applies a pick; a push takes in what `make` makes of its pattern at its instant.
+    // Applies a pick; a push takes in the worker that `maker` makes of its pattern at its instant.
     fn apply<M>(
         &mut self,
         pick: Pick,
-        make: &M,
+        maker: M,
     ) -> anyhow::Result<Answer<<D::Service as Endpoint>::Error>>
     where
-        M: Fn(Patterned, u64) -> anyhow::Result<D::Service>,
-        requires { M.IsAlwaysCallable make.now }
+        M: MakeWorker<Worker = D::Service>,
     {
         match pick {
             Pick::Balancer(pick) => {
                 let pick = pick.map(|number| <D::Service as Worker>::request(number));
                 Ok(Answer::Balancer(self.router.step(pick)))
             }
-            Pick::Cache(pick) => self.apply_to_cache(pick, make),
+            Pick::Cache(pick) => self.apply_to_cache(pick, maker),
         }
     }
 
     fn apply_to_cache<M>(
         &mut self,
         pick: CachePick,
-        make: &M,
+        maker: M,
     ) -> anyhow::Result<Answer<<D::Service as Endpoint>::Error>>
     where
-        M: Fn(Patterned, u64) -> anyhow::Result<D::Service>,
-        requires { M.IsAlwaysCallable make.now }
+        M: MakeWorker<Worker = D::Service>,
     {
         let cache = &mut self.router.cache;
         match pick {
             CachePick::Push { at, key, worker } => {
-                let worker = make(worker, at)?;
+                let worker = maker.make_worker(worker, at)?;
                 Ok(Answer::Pushed(cache.push(key, worker)))
             }
             CachePick::Evict { key } => Ok(Answer::Evicted(cache.evict(&key))),

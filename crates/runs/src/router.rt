@@ -1,28 +1,34 @@
-// What a run works on, step by step. (In the clauses `kinds ..` names the meanings of five bounds, as lib.rt says.)
-ghost use Rattle.std.specs.Prelude.{◌≡◌, length, IfOk};
+// (In the clauses `kinds ..` names the meanings of five bounds, as lib.rt says.)
+ghost use Rattle.std.specs.Prelude.{◌≡◌, length, min, take, drop, IfOk};
 ghost use Rattle.balance_model.specs.Balance.{newly_made};
-ghost use Rattle.balance_model.specs.History.{event, after, answer_of, apply_all};
+ghost use Rattle.balance_model.specs.History.{event, after, answer_of, answers_of, apply_all};
 ghost use Rattle.balance.specs.Steps.{kinds};
-ghost use Rattle.runs.specs.Runs.{state_of, making, Applied, from_state, Closing};
+ghost use Rattle.runs.specs.Runs.{state_of, making, from_state, AlwaysPromised, OwnedAs};
 
-use crate::ran::Ran;
+use crate::opening::Opening;
+use crate::owned_run::OwnedRun;
 use balance::balance::Balance;
 use balance::completion::complete;
-use balance_model::docket_record::DocketRecord;
 use balance_model::pick::{Answer, Pick};
-use cache_model::entry::Entry;
 use discover::Discover;
 use docket::docket::Docket;
+use memory::Slices;
 use ready_cache::cache::ReadyCache;
 use rng::Rng;
 use service::Endpoint;
 use std::alloc::{AllocError, Global};
 
-// A balancer with its cache and its docket.
+/// A balancer with its cache and its docket, to which picks are applied.
+///
+/// The three can be looked at between picks: `router.cache.iter_ready()`, `router.docket.len()`. A caller who also
+/// changes the cache or the docket by itself leaves the runs of which something is promised.
 #[derive(Drop)]
 pub struct Router<'a, K, S, D, R> {
+    /// The two-choice balancer, which reads the feed and names a worker.
     pub balance: Balance<D, R>,
+    /// The workers, ready and pending.
     pub cache: ReadyCache<'a, K, S>,
+    /// The requests that are out.
     pub docket: Docket<'a>,
 }
 
@@ -30,33 +36,37 @@ impl<'a, D: Discover, R: Rng> Router<'a, D::Key, D::Service, D, R>
 where
     D::Service: Endpoint,
 {
-    // A new balancer, cache and docket in this memory, where nothing was picked yet. (The slices and numbers of `run`, which says why they stand by themselves.)
-    pub fn new(
-        ready: &'a mut [Entry<D::Key, D::Service>],
-        pending: &'a mut [Entry<D::Key, D::Service>],
-        records: &'a mut [DocketRecord],
-        feed: D,
-        words: R,
-        budget: u32,
-        first_serial: u64,
-        first_ticket: u64,
-    ) -> Self
-        ensures { state_of result ≡ newly_made (making (length ready.old) (length pending.old) (length records.old) feed words budget first_serial first_ticket) }
+    /// A new balancer, cache and docket that work in these slices, where nothing was picked yet.
+    ///
+    /// - `made`: the three stand as the model has them when they are new
+    /// - `promise`: whatever is picked then, step by step, all that is promised of a run holds
+    #[tactic(auto, using(crate::proofs::Applying::always_promised))]
+    pub fn new(slices: Slices<'a, D::Key, D::Service>, opening: Opening<D, R>) -> Self
+        ensures made { state_of result ≡ newly_made (making slices.entry opening) }
+        ensures promise { AlwaysPromised
+            (kinds D.Key.sameness D.Service.means D.Service.Metric.order D.feeds R.source)
+            (making slices.entry opening) (state_of result) }
     {
         Router {
-            balance: Balance::from_rng(feed, words, budget),
-            cache: ReadyCache::new(ready, pending, first_serial),
-            docket: Docket::new(records, first_ticket),
+            balance: Balance::from_rng(opening.feed, opening.words, opening.budget),
+            cache: ReadyCache::new(slices.ready, slices.pending, opening.first_serial),
+            docket: Docket::new(slices.records, opening.first_ticket),
         }
     }
 
-    // Applies one pick.
+    /// Applies one pick, and answers what the poll, the call or the completion answers.
+    ///
+    /// For picks that come one at a time; [`Router::apply_all`] applies those of a slice.
     pub fn step(
         &mut self,
         pick: Pick<<D::Service as Endpoint>::Request>,
     ) -> Answer<D::Key, <D::Service as Endpoint>::Response, D::Error>
-        ensures answer { result ≡ answer_of (event (kinds D.Key.sameness D.Service.means D.Service.Metric.order D.feeds R.source) (state_of self.old) pick) }
-        ensures after { state_of self.new ≡ after (kinds D.Key.sameness D.Service.means D.Service.Metric.order D.feeds R.source) (state_of self.old) pick }
+        ensures answer { result ≡ answer_of (event
+            (kinds D.Key.sameness D.Service.means D.Service.Metric.order D.feeds R.source)
+            (state_of self.old) pick) }
+        ensures after { state_of self.new ≡ after
+            (kinds D.Key.sameness D.Service.means D.Service.Metric.order D.feeds R.source)
+            (state_of self.old) pick }
     {
         let Router {
             balance,
@@ -70,34 +80,47 @@ where
         }
     }
 
-    // Applies the picks in order, and answers every answer.
-    pub(crate) fn apply_all(
+    /// Applies the picks in order, as many as `answers` has places for, and answers how many: each answer stands at
+    /// the place of its pick, and the other places are as they were.
+    ///
+    /// Where memory for answers is short, the picks from that number on can be applied next, over the same memory.
+    pub fn apply_all(
         &mut self,
-        heap: Global,
         picks: &[Pick<<D::Service as Endpoint>::Request>],
-    ) -> Result<Vec<Answer<D::Key, <D::Service as Endpoint>::Response, D::Error>>, AllocError>
-        ensures { IfOk result (λ v. Applied v.items (state_of self.new) (apply_all (kinds D.Key.sameness D.Service.means D.Service.Metric.order D.feeds R.source) (from_state (state_of self.old)) picks.now)) }
+        answers: &mut [Answer<D::Key, <D::Service as Endpoint>::Response, D::Error>],
+    ) -> usize
+        ensures count { result ≡ min (length picks.now) (length answers.old) }
+        ensures answers { let m = kinds
+            D.Key.sameness D.Service.means D.Service.Metric.order D.feeds R.source in
+            let run = apply_all m (from_state (state_of self.old)) (take result picks.now) in
+            take result answers.new ≡ answers_of run.history }
+        ensures rest { drop result answers.new ≡ drop result answers.old }
+        ensures state { let m = kinds
+            D.Key.sameness D.Service.means D.Service.Metric.order D.feeds R.source in
+            let run = apply_all m (from_state (state_of self.old)) (take result picks.now) in
+            state_of self.new ≡ run.state }
     {
-        let mut answers = Vec::new(heap);
-        for pick in picks {
-            answers.push(self.step(*pick))?;
+        let count = picks.len().min(answers.len());
+        // by place: of what is written through `iter_mut` a contract knows nothing
+        for i in 0..count {
+            answers[i] = self.step(picks[i]);
         }
-        Ok(answers)
+        count
     }
 
-    // The answers with copies of both lists and of the docket.
-    pub(crate) fn closing(
+    // These answers, with copies of both lists and of the docket.
+    pub(crate) fn into_owned(
         self,
         heap: Global,
         answers: Vec<Answer<D::Key, <D::Service as Endpoint>::Response, D::Error>>,
     ) -> Result<
-        Ran<D::Key, D::Service, <D::Service as Endpoint>::Response, D, D::Error, R>,
+        OwnedRun<D::Key, D::Service, <D::Service as Endpoint>::Response, D, D::Error, R>,
         AllocError,
     >
     where
         D: Drop,
         R: Drop,
-        ensures { IfOk result (λ x. Closing x answers.items (state_of self.entry)) }
+        ensures { IfOk result (λ owned. OwnedAs owned answers.items (state_of self.entry)) }
     {
         let Router {
             balance,
@@ -107,7 +130,7 @@ where
         let ready = Vec::from_slice(heap, cache.iter_ready().as_slice())?;
         let pending = Vec::from_slice(heap, cache.iter_pending().as_slice())?;
         let records = Vec::from_slice(heap, docket.iter().as_slice())?;
-        Ok(Ran {
+        Ok(OwnedRun {
             answers,
             balance,
             ready,

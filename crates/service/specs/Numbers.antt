@@ -1,4 +1,4 @@
--- The number of each answer that refuses or reports a fault, and what each answer carries; the other answers have no number.
+-- What each answer says: its number, if it refuses or reports a fault, and what it carries.
 use Rattle.std.specs.Prelude.{ℕ, Some, None, Option}
 use Rattle.service.specs.declared.poll.Poll.{Poll}
 use Rattle.service.specs.declared.poll.Poll.TheVariants as poll
@@ -11,33 +11,36 @@ use Rattle.service.specs.declared.refusal.EndpointRefusal.TheVariants.{NoGrant, 
 use Rattle.service.specs.declared.refusal.Invalid.{Invalid}
 use Rattle.service.specs.declared.refusal.Invalid.TheVariants.{Name, Pattern, Duration}
 
--- no grant
+-- no grant; a refusal of a service carries nothing
 abbrev pub service_number : ServiceRefusal → ℕ
 service_number of_service.NoGrant = 4
 
--- no grant; too many requests out
+-- no grant; too many requests out; neither carries anything
 abbrev pub endpoint_number : EndpointRefusal → ℕ
 endpoint_number NoGrant = 4
 endpoint_number AtCeiling = 5
 
--- a name, a pattern or a duration that is not allowed
+-- a name, a pattern or a duration that is not allowed; none carries anything
 abbrev pub invalid_number : Invalid → ℕ
 invalid_number Name = 13
 invalid_number Pattern = 13
 invalid_number Duration = 13
 
--- a Failed has the number 11 and carries its error
-abbrev pub readiness_number : {E : Type 0} → Readiness E → Option ℕ
-readiness_number Ready = None
-readiness_number Pending = None
-readiness_number (Failed e) = Some 11
+-- what an answer of `poll_ready` says: a failure has the number 11, and carries its error
+pub record ReadinessReport (E : Type 0) : Type 0 where
+  pub number : Option ℕ
+  pub error : Option E
 
-abbrev pub readiness_error : {E : Type 0} → Readiness E → Option E
-readiness_error Ready = None
-readiness_error Pending = None
-readiness_error (Failed e) = Some e
+abbrev pub readiness_report : {E : Type 0} → Readiness E → ReadinessReport E
+readiness_report Ready = record { number = None; error = None }
+readiness_report Pending = record { number = None; error = None }
+readiness_report (Failed e) = record { number = Some 11; error = Some e }
 
--- a poll that is ready carries its value; neither answer has a number
-abbrev pub poll_value : {A : Type 0} → Poll A → Option A
-poll_value (poll.Ready a) = Some a
-poll_value poll.Pending = None
+-- what an answer of a poll says: neither case has a number, and a ready one carries its value
+pub record PollReport (A : Type 0) : Type 0 where
+  pub number : Option ℕ
+  pub value : Option A
+
+abbrev pub poll_report : {A : Type 0} → Poll A → PollReport A
+poll_report (poll.Ready a) = record { number = None; value = Some a }
+poll_report poll.Pending = record { number = None; value = None }

@@ -1,6 +1,10 @@
 // Published and worked values: each line on standard input asks for one, and the answer is printed beside it.
 #![tactic(auto)]
 
+ghost use Rattle.std.specs.Prelude.{◌≡◌};
+ghost use Rattle.rng.specs.Fnv.{fnv_1a};
+ghost use Rattle.rng.specs.Sources.{bytes_of};
+
 use anyhow::{anyhow, bail};
 use decay::Decay;
 use decay::halving::Halving;
@@ -44,9 +48,11 @@ fn estimate<D: Decay>(decay: D, words: &[&str]) -> anyhow::Result<u64> {
 }
 
 // The word by hashing a counter, after so many others.
-fn nth_word(place: u64) -> u64 {
+fn nth_word(place: u64) -> u64
+    ensures { result ≡ fnv_1a (bytes_of place) }
+{
     let mut rng = HasherRng::new();
-    for _ in 0..place {
+    for _word in 0..place {
         let _ = rng.next_u64();
     }
     rng.next_u64()

@@ -1,1 +1,3 @@
+pub mod Estimates
+pub mod Removal
 pub mod Cases

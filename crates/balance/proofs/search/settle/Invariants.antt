@@ -1,6 +1,6 @@
 use Rattle.std.proofs.Common.{length}
 use Rattle.balance_model.specs.Balance.{settle_all}
-use Rattle.balance.specs.Steps.{SettleLeft}
+use Rattle.balance.proofs.Left.{SettleLeft}
 use Rattle.balance.proofs.search.settle.Given as goal
 
 abbrev pub invariant-loop-lost : goal.invariant-loop-lost

@@ -7,8 +7,8 @@ use Rattle.cache_model.specs.Entries.{has_key}
 use Rattle.entries.proofs.Lists.{changed_at, renewed, promote_is}
 use Rattle.ready_cache.proofs.pass.promote.Goals as goal
 
-pub returns-in-Some : goal.returns-in-Some
-returns-in-Some g c =
+pub returns-in-Some-clause-list : goal.returns-in-Some-clause-list
+returns-in-Some-clause-list g c =
     let keys = g.K.Key.sameness in
     let e = c.args.entry in
     let xs = c.args.items.now in
@@ -29,8 +29,8 @@ returns-in-Some g c =
       within = c.requires;
     }
 
-pub returns : goal.returns
-returns g c =
+pub returns-clause-list : goal.returns-clause-list
+returns-clause-list g c =
     let keys = g.K.Key.sameness in
     let e = c.args.entry in
     let xs = c.args.items.now in

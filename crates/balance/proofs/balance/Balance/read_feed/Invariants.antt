@@ -1,6 +1,7 @@
 use Rattle.std.proofs.Common.{◌-◌}
 use Rattle.balance_model.specs.Balance.{read_feed}
-use Rattle.balance.specs.Steps.{kinds, FeedLeft}
+use Rattle.balance.specs.Steps.{kinds}
+use Rattle.balance.proofs.Left.{FeedLeft}
 use Rattle.balance.proofs.balance.Balance.read_feed.Given as goal
 
 abbrev pub invariant-loop-turn : goal.invariant-loop-turn

@@ -1,26 +1,66 @@
 use Rattle.std.proofs.Common.{◌≡◌, ◌<◌, Ok, sym, refl, ap, ◌∙◌, arith}
 use Rattle.std.proofs.lemmas.List.{length-take-le}
 use Rattle.model.proofs.Cases.{err_is}
-use Rattle.ready_cache.specs.Passing.{fault_of}
-use Rattle.ready_cache.proofs.Polls.{poll_told, emptied_none, emptied_some}
+use Rattle.ready_cache.proofs.Passes.{on_ok, fault_of, fault_none, came, came_as, nearer}
+use Rattle.ready_cache.proofs.Polls.{Stopped, stopped_as, poll_told, emptied_none, emptied_some}
+use Rattle.ready_cache.proofs.cache.ReadyCache.poll_pending.Goals.{then-loop-outcome-test+else-places-pending, else-loop-outcome-test}
 use Rattle.ready_cache.proofs.cache.ReadyCache.poll_pending.Goals as goal
 
-pub returns-in_err-passed : goal.returns-in_err-passed
-returns-in_err-passed g c =
-    let is = poll_told g.K.Key.sameness g.S.Endpoint.means c.args.at c.self.inside c.self.view_is c.self.invariant c.capacity-capacity.ensures c.min-from.ensures c.in_err-passed.was c.pass-passed.ensures in
+pub loop-outcome-preserved : goal.loop-outcome-preserved
+loop-outcome-preserved g c =
+    let keys = g.K.Key.sameness in
+    let m = g.S.Endpoint.means in
+    let so = came_as keys m c.args.at (on_ok c.loop-outcome.outcome c.is_ok.ensures.value c.loop-outcome-test.true) c.loop-outcome.invariant in
+    came keys m c.args.at so.went so.same (omega (arith, c.if-places-pending.true, so.went.pending_long)) c.turn-answer.auto.items c.admit-outcome.auto.items c.turn-answer.result c.admit-outcome.result c.turn-answer.ensures c.admit-outcome.ensures
+
+pub loop-outcome-smaller : goal.loop-outcome-smaller
+loop-outcome-smaller g c =
+    let keys = g.K.Key.sameness in
+    let m = g.S.Endpoint.means in
+    let was = on_ok c.loop-outcome.outcome c.is_ok.ensures.value c.loop-outcome-test.true in
+    let so = came_as keys m c.args.at was c.loop-outcome.invariant in
+    rw was (nearer keys m c.args.at _ _ _ _ _ c.loop-outcome.places _ _ c.turn-answer.result c.admit-outcome.result (omega (arith, c.if-places-pending.true, so.went.pending_long)) c.turn-answer.ensures c.admit-outcome.ensures)
+
+pub returns-in_err-outcome : goal.returns-in_err-outcome
+returns-in_err-outcome g c =
+    let keys = g.K.Key.sameness in
+    let m = g.S.Endpoint.means in
+    let at = c.loop-outcome in
+    let after = c.loop-outcome-test.self-inside in
+    let stop : Stopped keys m c.args.at c.self.inside after c.capacity-capacity.result at.ready at.pending at.places at.outcome =
+    elim c.loop-outcome-test.branch [
+      | then-loop-outcome-test+else-places-pending w ↦ stopped_as keys m c.args.at w.self-inside-is (record { ready = refl; pending = refl; next = refl; done = λ _. w.if-places-pending.false })
+      | else-loop-outcome-test w ↦ stopped_as keys m c.args.at w.self-inside-is (record { ready = refl; pending = refl; next = refl; done = λ h. absurd (fault_none at.outcome c.is_ok.ensures.value w.loop-outcome-test.false h) })
+    ] in
+    let is = poll_told keys m c.args.at c.self.inside after c.self.view_is c.self.invariant c.capacity-capacity.ensures c.min-from.ensures c.in_err-outcome.was at.invariant stop in
     record { answer = err_is c.from_residual.result c.from_residual.ensures.1 ∙ is.1; after = is.2 _ _ c.copy_within.ensures.len c.copy_within.ensures.after refl }
 
 pub returns-then-self-eq0 : goal.returns-then-self-eq0
 returns-then-self-eq0 g c =
-    let on = c.pass-passed in
-    let is = poll_told g.K.Key.sameness g.S.Endpoint.means c.args.at c.self.inside c.self.view_is c.self.invariant c.capacity-capacity.ensures c.min-from.ensures c.in_ok-passed.was on.ensures in
-    let none : on.new.places.write ≡ 0 = omega (arith, c.if-self-eq0.true) in
-    record { answer = ap Ok (sym (emptied_none on.new.pending on.new.places.write none)) ∙ is.1; after = is.2 _ _ c.copy_within.ensures.len c.copy_within.ensures.after refl }
+    let keys = g.K.Key.sameness in
+    let m = g.S.Endpoint.means in
+    let at = c.loop-outcome in
+    let after = c.loop-outcome-test.self-inside in
+    let stop : Stopped keys m c.args.at c.self.inside after c.capacity-capacity.result at.ready at.pending at.places at.outcome =
+    elim c.loop-outcome-test.branch [
+      | then-loop-outcome-test+else-places-pending w ↦ stopped_as keys m c.args.at w.self-inside-is (record { ready = refl; pending = refl; next = refl; done = λ _. w.if-places-pending.false })
+      | else-loop-outcome-test w ↦ stopped_as keys m c.args.at w.self-inside-is (record { ready = refl; pending = refl; next = refl; done = λ h. absurd (fault_none at.outcome c.is_ok.ensures.value w.loop-outcome-test.false h) })
+    ] in
+    let is = poll_told keys m c.args.at c.self.inside after c.self.view_is c.self.invariant c.capacity-capacity.ensures c.min-from.ensures c.in_ok-outcome.was at.invariant stop in
+    let none : at.places.write ≡ 0 = omega (arith, c.if-self-eq0.true) in
+    record { answer = ap Ok (sym (emptied_none at.pending at.places.write none)) ∙ is.1; after = is.2 _ _ c.copy_within.ensures.len c.copy_within.ensures.after refl }
 
 pub returns : goal.returns
 returns g c =
-    let f = c.self.inside in
-    let on = c.pass-passed in
-    let is = poll_told g.K.Key.sameness g.S.Endpoint.means c.args.at f c.self.view_is c.self.invariant c.capacity-capacity.ensures c.min-from.ensures c.in_ok-passed.was on.ensures in
-    let some : 0 < on.new.places.write = omega (arith, c.if-self-eq0.false, on.ensures.done (ap fault_of c.in_ok-passed.was), length-take-le f.pending_count f.pending.now (omega (arith, c.self.invariant))) in
-    record { answer = ap Ok (sym (emptied_some on.new.pending on.new.places.write is.0 some)) ∙ is.1; after = is.2 _ _ c.copy_within.ensures.len c.copy_within.ensures.after refl }
+    let keys = g.K.Key.sameness in
+    let m = g.S.Endpoint.means in
+    let at = c.loop-outcome in
+    let after = c.loop-outcome-test.self-inside in
+    let stop : Stopped keys m c.args.at c.self.inside after c.capacity-capacity.result at.ready at.pending at.places at.outcome =
+    elim c.loop-outcome-test.branch [
+      | then-loop-outcome-test+else-places-pending w ↦ stopped_as keys m c.args.at w.self-inside-is (record { ready = refl; pending = refl; next = refl; done = λ _. w.if-places-pending.false })
+      | else-loop-outcome-test w ↦ stopped_as keys m c.args.at w.self-inside-is (record { ready = refl; pending = refl; next = refl; done = λ h. absurd (fault_none at.outcome c.is_ok.ensures.value w.loop-outcome-test.false h) })
+    ] in
+    let is = poll_told keys m c.args.at c.self.inside after c.self.view_is c.self.invariant c.capacity-capacity.ensures c.min-from.ensures c.in_ok-outcome.was at.invariant stop in
+    let some : 0 < at.places.write = omega (arith, c.if-self-eq0.false, stop.done (ap fault_of c.in_ok-outcome.was), at.invariant.went.pending_long, length-take-le c.self.inside.pending_count c.self.inside.pending.now (omega (arith, c.self.invariant))) in
+    record { answer = ap Ok (sym (emptied_some at.pending at.places.write is.0 some)) ∙ is.1; after = is.2 _ _ c.copy_within.ensures.len c.copy_within.ensures.after refl }

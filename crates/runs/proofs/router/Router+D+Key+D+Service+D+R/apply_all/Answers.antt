@@ -1,17 +1,11 @@
-use Rattle.std.proofs.Common.{vec_items}
+use Rattle.std.proofs.Common.{arith}
 use Rattle.balance.specs.Steps.{kinds}
 use Rattle.runs.specs.Runs.{state_of, from_state}
-use Rattle.runs.proofs.Applying.{applied_more, applied_all, with_items}
+use Rattle.runs.proofs.Applying.{one_more}
 use Rattle.runs.proofs.router.Router+D+Key+D+Service+D+R.apply_all.Goals as goal
 
-pub loop-pick-preserved : goal.loop-pick-preserved
-loop-pick-preserved g c =
+pub loop-i-preserved : goal.loop-i-preserved
+loop-i-preserved g c =
     let m = kinds g.D.Key.Key.sameness g.D.Service.Endpoint.means g.D.Service.Metric.Weight.order g.D.Discover.feeds g.R.Rng.source in
-    let s = c.step in
-    with_items _ _ _ _ c.in_ok-push.ensures.items
-    (applied_more m (from_state (state_of c.args.self.now)) c.args.picks.now c.loop-pick.pick-index c.pick-item.result (vec_items c.loop-pick.answers) (state_of c.loop-pick.self) (state_of s.new.self) s.result c.loop-pick-test.true c.pick-item.is c.loop-pick.invariant s.ensures.answer s.ensures.after)
-
-pub returns : goal.returns
-returns g c =
-    let m = kinds g.D.Key.Key.sameness g.D.Service.Endpoint.means g.D.Service.Metric.Weight.order g.D.Discover.feeds g.R.Rng.source in
-    applied_all m (from_state (state_of c.args.self.now)) c.args.picks.now c.loop-pick.pick-index (vec_items c.loop-pick.answers) (state_of c.loop-pick.self) c.loop-pick-test.false c.loop-pick.invariant
+    one_more m (from_state (state_of c.args.self.now)) c.args.picks.now c.args.answers.now c.loop-i.answers (state_of c.loop-i.self) (state_of c.step.new.self) c.loop-i.i c.index-picks-i.result c.step.result
+    (omega arith) (omega arith) c.index-picks-i.is c.loop-i.invariant c.step.ensures.answer c.step.ensures.after

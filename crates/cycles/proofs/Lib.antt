@@ -1,0 +1,2 @@
+mod Cycling
+pub mod Listing

@@ -1,0 +1,81 @@
+-- Cycles of poll, call and completion, as steps of the balancer's model.
+use Rattle.std.specs.Prelude.{◌≡◌, ℕ, zero, suc, ◌+◌, ◌-◌, ◌*◌, ◌%◌, ◌^◌, min, Some, None, Option, Result}
+use Rattle.std.specs.Option.{unwrap_or}
+use Rattle.model.specs.Outcome.{Outcome, outcome}
+use Rattle.model.specs.Options.{by_result}
+use Rattle.service.specs.Meaning.{Sameness}
+use Rattle.service.specs.Kinds.{same_number}
+use Rattle.service.specs.declared.poll.Poll.{Poll}
+use Rattle.service.specs.declared.poll.Poll.TheVariants.{Ready, Pending}
+use Rattle.cache_model.specs.Cache.{capacity_of}
+use Rattle.balance_model.specs.declared.answer.CallError.{CallError}
+use Rattle.balance_model.specs.declared.answer.Polled.{Polled}
+use Rattle.balance_model.specs.declared.answer.PollError.{PollError}
+use Rattle.balance_model.specs.declared.pick.Pick.TheVariants as pick
+use Rattle.balance_model.specs.Docket.{docket_capacity}
+use Rattle.balance_model.specs.Meanings.{Meanings}
+use Rattle.balance_model.specs.Balance.{Making, State, Sent, poll, call}
+use Rattle.balance_model.specs.History.{after}
+use Rattle.rng.specs.declared.hasher_rng.HasherRng.{HasherRng}
+use Rattle.rng.specs.Sources.{hasher_start}
+
+-- keys are numbers
+abbrev pub numbers : Sameness ℕ
+numbers = same_number (λ k. k)
+
+-- what is made of the value in a Ready; at Pending the first
+abbrev pub by_poll : {A B : Type 0} → Poll A → B → (A → B) → B
+by_poll Pending b f = b
+by_poll (Ready a) b f = f a
+
+-- what is answered and left is this
+pub record Leaves {A S : Type 0} (o : Outcome A S) (answer : A) (after : S) : Type 0 where
+  pub answer_is : answer ≡ o.answer
+  pub after_is : after ≡ o.after
+
+module _ {S E W D F R : Type 0} (m : Meanings ℕ S ℕ ℕ E W D F R) (late : ℕ) where
+  -- what came of a call of the worker with this serial: the serial and the response added up, and the ticket `late` before completed; none where the call was refused
+  abbrev pub called : ℕ → ℕ → Result (Sent ℕ) CallError → State ℕ S D R → Outcome (Option ℕ) (State ℕ S D R)
+  called now serial answer st =
+      by_result answer
+      (λ sent. outcome (Some ((serial + sent.response) % 2 ^ 64)) (after m st (pick.Complete (sent.ticket - late) now)))
+      (λ _. outcome None st)
+
+  -- the request 0 to the worker that the latest poll named
+  unfoldable pub request : ℕ → ℕ → State ℕ S D R → Outcome (Option ℕ) (State ℕ S D R)
+  request now serial st = called now serial (call m now st 0).answer (call m now st 0).after
+
+  -- what came of a poll: a request to the worker that it named, and none where it named nobody
+  abbrev pub polled : ℕ → Result Polled (PollError ℕ F) → State ℕ S D R → Outcome (Option ℕ) (State ℕ S D R)
+  polled now answer st =
+      by_result answer
+      (λ p. by_poll p.worker (outcome None st) (λ serial. request now serial st))
+      (λ _. outcome None st)
+
+  -- one cycle
+  unfoldable pub cycle : ℕ → State ℕ S D R → Outcome (Option ℕ) (State ℕ S D R)
+  cycle now st = polled now (poll m now st.balancer st.cache).answer (after m st (pick.Poll now))
+
+  -- so many cycles, at the instants 0, 1000, 2000 and so on: the sum of what they answer, modulo 2^64
+  unfoldable pub cycles : ℕ → State ℕ S D R → Outcome ℕ (State ℕ S D R)
+  cycles zero st = outcome 0 st
+  cycles (suc n) st =
+      let before = cycles n st in
+      let last = cycle (n * 1000) before.after in
+      outcome ((before.answer + unwrap_or last.answer 0) % 2 ^ 64) last.after
+
+-- a number, or the largest u32 where it is larger
+abbrev pub saturated : ℕ → ℕ
+saturated n = min n (2 ^ 32 - 1)
+
+-- what the cycles begin with, for so many workers and so many requests that stay out: twice as many places and two more, and one record more; words by hashing, and 4096 answers of the feed for a poll
+abbrev pub making : {D : Type 0} → ℕ → ℕ → D → Making D HasherRng
+making workers out feed = record {
+  cache_capacity = capacity_of (saturated (2 * workers + 2)) (saturated (2 * workers + 2));
+  docket_capacity = docket_capacity (saturated (out + 1));
+  first_serial = 1;
+  first_ticket = 1;
+  feed = feed;
+  words = hasher_start;
+  budget = 4096;
+}
