@@ -76,7 +76,7 @@ module _ {K S Q A E W D F R : Type 0} (m : Meanings K S Q A E W D F R) (now : �
     abbrev d : Drawn K S R
     d = draw m.endpoints m.weights now m.words c r
 
-    few : length c.ready < 2 → d ≡ record { place = 0; cache = c; words = r; draws = [] }
+    few : length c.ready < 2 → d ≡ record { made = record { before = c.ready; words = []; place = 0 }; cache = c; words = r }
     few h = let e : ltb (length c.ready) 2 ≡ true = lt-ltb (length c.ready) 2 h in rw e refl
 
     nobody_drawn : length c.ready ≡ 0 → GoesOn (seek_all m now c r) (held c) None d.cache d.words
@@ -88,7 +88,7 @@ module _ {K S Q A E W D F R : Type 0} (m : Meanings K S Q A E W D F R) (now : �
           same = refl;
         })
 
-    one_drawn : 0 < length c.ready → GoesOn (seek_all m now c r) (held c) (Some d.place) d.cache d.words
+    one_drawn : 0 < length c.ready → GoesOn (seek_all m now c r) (held c) (Some d.made.place) d.cache d.words
     one_drawn n =
         let step = seek_some m now c r n in
         let w = draw_within m now c r in
@@ -109,7 +109,7 @@ module _ {K S Q A E W D F R : Type 0} (m : Meanings K S Q A E W D F R) (now : �
 
     pub drawn : GoesOn (seek_all m now c r) (held c) (drawn_place c d) d.cache d.words
     drawn =
-        cond_case (λ (o : Option ℕ). GoesOn (seek_all m now c r) (held c) o d.cache d.words) (eqb (length c.ready) 0) None (Some d.place)
+        cond_case (λ (o : Option ℕ). GoesOn (seek_all m now c r) (held c) o d.cache d.words) (eqb (length c.ready) 0) None (Some d.made.place)
         (λ e. nobody_drawn (eqb-true (length c.ready) 0 e))
         (λ e. let f = eqb-false (length c.ready) 0 e in one_drawn (positive (length c.ready) f))
       where

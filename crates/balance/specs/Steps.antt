@@ -25,7 +25,7 @@ kinds keys endpoints weights feeds words = record { keys = keys; endpoints = end
 
 -- the place that a draw gives, where anybody is ready
 abbrev pub drawn_place : {K S R : Type 0} → Cache K S → Drawn K S R → Option ℕ
-drawn_place c d = cond (length c.ready == 0) None (Some d.place)
+drawn_place c d = cond (length c.ready == 0) None (Some d.made.place)
 
 -- the balancer with another selected place
 abbrev pub selecting : {D R : Type 0} → Balancer D R → Option ℕ → Balancer D R

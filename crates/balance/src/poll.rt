@@ -39,7 +39,9 @@ where
         ensures answer { result ≡ (poll (kinds D.Key.sameness D.Service.means D.Service.Metric.order D.feeds R.source) at self.old cache.old).answer }
         ensures after { self.new ≡ (poll (kinds D.Key.sameness D.Service.means D.Service.Metric.order D.feeds R.source) at self.old cache.old).balancer }
         ensures cache { cache.new ≡ (poll (kinds D.Key.sameness D.Service.means D.Service.Metric.order D.feeds R.source) at self.old cache.old).cache }
-        ensures lawful { PollLawful D.Service.means D.Service.Metric.order at (poll (kinds D.Key.sameness D.Service.means D.Service.Metric.order D.feeds R.source) at self.old cache.old) }
+        ensures lawful { let m = kinds
+            D.Key.sameness D.Service.means D.Service.Metric.order D.feeds R.source in
+            PollLawful m at self.old cache.old (poll m at self.old cache.old) }
     {
         self.fresh = false;
         self.read_feed(cache, at)?;

@@ -74,7 +74,8 @@ module _ {K S Q A E W D F R : Type 0} (m : Meanings K S Q A E W D F R) (now : �
         spent = o.spent;
         calls = (right, o.calls);
         draws = o.draws;
-        drawn = o.drawn;
+        known = o.known;
+        searched = (c.ready, o.searched);
       }
 
   -- with a selected worker nothing is spent
@@ -273,7 +274,8 @@ module _ {K S Q A E W D F R : Type 0} (m : Meanings K S Q A E W D F R) (now : �
     spent = λ _. inr (inr tt);
     calls = (record { reached = (s.named, s.said); six = (λ g. absurd g, λ p. not_spent m now b c.ready h s p); never = (λ g. g, λ g. g) }, o.calls);
     draws = o.draws;
-    drawn = o.drawn;
+    known = λ i e. cc;
+    searched = (c.ready, o.searched);
   }
 
 module _ {K S Q A E W D F R : Type 0} (m : Meanings K S Q A E W D F R) (now : ℕ) where

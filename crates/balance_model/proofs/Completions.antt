@@ -58,7 +58,8 @@ module _ {K S Q A E W D F R : Type 0} (m : Meanings K S Q A E W D F R) (now tick
         spent = o.spent;
         calls = o.calls;
         draws = o.draws;
-        drawn = o.drawn;
+        known = o.known;
+        searched = (c.ready, o.searched);
       }
 
   module _ (b : Balancer D R) (c c' : Cache K S) (d : Docket) (h : History K S A E F) (o : Holds m b c d h) (i : ℕ) (gone : DocketRecord) (stands : at d.records i ≡ Some gone) (it_is : gone.ticket ≡ ticket) (told : Told m.keys m.endpoints now c c' gone.serial) (over : Completion) where
@@ -168,7 +169,8 @@ module _ {K S Q A E W D F R : Type 0} (m : Meanings K S Q A E W D F R) (now tick
       spent = o.spent;
       calls = o.calls;
       draws = o.draws;
-      drawn = o.drawn;
+      known = o.known;
+      searched = (c.ready, o.searched);
     }
 
   pub complete_holds : (b : Balancer D R) (c : Cache K S) (d : Docket) (h : History K S A E F) → Holds m b c d h →

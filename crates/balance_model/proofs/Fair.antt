@@ -11,7 +11,7 @@ use Rattle.cache_model.specs.Entries.{holding}
 use Rattle.cache_model.specs.Cache.{Cache}
 use Rattle.balance_model.specs.Draw.{weigh}
 use Rattle.balance_model.specs.Promise.{not_heavier_at, DrawFair}
-use Rattle.std.proofs.Common.{◌≡◌, ℕ, ◌-◌, ◌%◌, ◌<◌, ◌≤◌, List, length, set, Some, refl, ◌∙◌, mod-lt, arith}
+use Rattle.std.proofs.Common.{◌≡◌, ℕ, ◌-◌, ◌%◌, ◌<◌, ◌≤◌, List, [], ◌∷◌, length, set, Some, refl, ◌∙◌, mod-lt, arith}
 
 module _ {K S Q A E W : Type 0} (ends : Endpoints S Q A E W) (weights : Weights W) (now : ℕ) where
   -- reading a load leaves the others, and answers the weight
@@ -38,9 +38,12 @@ module _ {K S Q A E W : Type 0} (ends : Endpoints S Q A E W) (weights : Weights 
   -- a draw by two words, among two or more
   pub fair : (c : Cache K S) (v w : ℕ) → 2 ≤ length c.ready →
       let n = length c.ready in
-      DrawFair ends weights now (record { before = c.ready; first = v; second = w; place = (weigh ends weights now c (first_place n (v % (n - 1)) (w % n)) (w % n)).place })
+      DrawFair ends weights now (record { before = c.ready; words = v ∷ w ∷ []; place = (weigh ends weights now c (first_place n (v % (n - 1)) (w % n)) (w % n)).place })
   fair c v w h = record {
     among = h;
+    first = v;
+    second = w;
+    words = refl;
     drawn = by_pair c (v % (length c.ready - 1)) (w % length c.ready) (mod-lt _ (omega arith)) (mod-lt _ (omega arith));
     pairs = one_pair_each (length c.ready) h;
     shares = λ i hi. fair_shares (length c.ready) h (not_heavier_at ends weights now c.ready) (compared c.ready) i hi;

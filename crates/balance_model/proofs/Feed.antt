@@ -1,7 +1,7 @@
 -- What reading the feed does: workers come in under new serials, each with its count.
 use Rattle.model.specs.Options.{by_result}
 use Rattle.model.specs.Sums.{one_if}
-use Rattle.model.proofs.Cases.{result_case}
+use Rattle.model.proofs.Cases.{cond_case, result_case}
 use Rattle.model.proofs.Totals.{total, total_mono}
 use Rattle.service.specs.Meaning.{Sameness, Endpoints}
 use Rattle.cache_model.specs.Entries.{ready_place}
@@ -14,7 +14,7 @@ use Rattle.balance_model.specs.Meanings.{Meanings}
 use Rattle.balance_model.specs.Balance.{Pushed, Fed, pushing_first, read_feed, still_selected, Read, stopping}
 use Rattle.balance_model.specs.History.{brought_in}
 use Rattle.balance_model.proofs.Cases.{discovered_case}
-use Rattle.std.proofs.Common.{◌≡◌, ℕ, zero, suc, ◌+◌, ◌<◌, ◌≤◌, Bool, true, false, cond, ◌&&◌, eqb, ◌⊎◌, [], ◌∷◌, length, Some, None, Option, sym, refl, ap, subst, inl, inr, arith}
+use Rattle.std.proofs.Common.{◌≡◌, ℕ, zero, suc, ◌+◌, ◌<◌, ◌≤◌, Bool, true, false, cond, ◌&&◌, ◌||◌, eqb, ◌⊎◌, [], ◌∷◌, length, Some, None, Option, sym, refl, ap, subst, inl, inr, arith}
 use Rattle.std.proofs.lemmas.Bool.{ne_eqb, eqb-true}
 use Rattle.std.proofs.lemmas.Bool.Decides.{eqb_tells}
 
@@ -89,6 +89,15 @@ module _ {K S Q A E W : Type 0} (keys : Sameness K) (ends : Endpoints S Q A E W)
           let z : one_if (eqb c.next x && eqb (ends.count s) n) ≡ 0 = rw t.0 refl in
           rw t.0 (r.brings x n (omega arith))
 
+was_selected : (selected : Option ℕ) (n : ℕ) (gone : Option ℕ) (i : ℕ) → still_selected selected n gone ≡ Some i → selected ≡ Some i
+was_selected selected n None i e = e
+was_selected None n (Some gone) i e = cc
+was_selected (Some j) n (Some gone) i e =
+    cond_case (λ (o : Option ℕ). o ≡ Some i → Some j ≡ Some i) (eqb j gone || eqb (suc j) n) _ _
+    (λ _ e. cc)
+    (λ _ e. e)
+    e
+
 module _ {K S Q A E W D F R : Type 0} (m : Meanings K S Q A E W D F R) (now : ℕ) where
   pub read_feed_right : (budget : ℕ) (d : D) (selected : Option ℕ) (c : Cache K S) → FedRight m.keys m.endpoints c (read_feed m now budget d selected c)
   read_feed_right zero d selected c = stays m.keys m.endpoints c _ refl refl
@@ -111,3 +120,22 @@ module _ {K S Q A E W D F R : Type 0} (m : Meanings K S Q A E W D F R) (now : �
       (λ e refusal. stays m.keys m.endpoints c _ (push_refused m.keys m.endpoints c k s e refusal) refl))
       (λ k. keeps_then m.keys m.endpoints c (evict m.keys c k).after _ (evict_keeps m.keys m.endpoints c k)
       (read_feed_right budget left.after (still_selected selected (length c.ready) (ready_place m.keys k c.ready)) (evict m.keys c k).after))
+
+  -- what is selected after the feed was read was so before
+  pub read_feed_selected : (budget : ℕ) (d : D) (selected : Option ℕ) (c : Cache K S) (i : ℕ) → (read_feed m now budget d selected c).selected ≡ Some i → selected ≡ Some i
+  read_feed_selected zero d selected c i = λ e. e
+  read_feed_selected (suc budget) d selected c i =
+      let left = m.feeds.discovered d now in
+      let going : Read K S D F → Fed K S D F = λ r. by_result r.answer (λ more. cond more (pushing_first r.pushes (read_feed m now budget r.feed r.selected r.cache)) (stopping r None)) (λ e. stopping r (Some e)) in
+      let Goal : Read K S D F → Type 0 = λ r. (going r).selected ≡ Some i → selected ≡ Some i in
+      discovered_case Goal left.answer _ _ _ _
+      (λ e. e)
+      (λ x e. e)
+      (λ k s.
+      let p = push m.keys c k s in
+      result_case Goal p.answer _ _
+      (λ serial _. read_feed_selected budget left.after selected p.after i)
+      (λ _ _ e. e))
+      (λ k e.
+      let place = ready_place m.keys k c.ready in
+      was_selected selected (length c.ready) place i (read_feed_selected budget left.after (still_selected selected (length c.ready) place) (evict m.keys c k).after i e))

@@ -12,9 +12,9 @@ use Rattle.balance_model.specs.declared.answer.CallError.{CallError}
 use Rattle.balance_model.specs.Meanings.{Meanings}
 use Rattle.balance_model.specs.Docket.{Docket}
 use Rattle.balance_model.specs.Balance.{Balancer, Sent}
-use Rattle.balance_model.specs.History.{History, named_by_latest, GrantedInLatest, sent_since, sent_to, is_completed}
-use Rattle.balance_model.specs.Promise.{EachCall, ReachedNamed, NobodyNamed, SixThen, NotThreeOrFour, CountRight, DrawsFair, AlwaysDrawnAsked}
-use Rattle.std.proofs.Common.{◌≡◌, ℕ, ◌<◌, ◌≤◌, true, false, eqb, List, [], Some, Result}
+use Rattle.balance_model.specs.History.{History, named_by_latest, selected_by, GrantedInLatest, sent_since, sent_to, is_completed}
+use Rattle.balance_model.specs.Promise.{EachCall, ReachedNamed, NobodyNamed, SixThen, NotThreeOrFour, CountRight, DrawsRight, PollsSearched}
+use Rattle.std.proofs.Common.{◌≡◌, ℕ, ◌<◌, ◌≤◌, true, false, T, is_some, eqb, List, [], Some, Result}
 
 module _ {K S A E F : Type 0} where
   -- all that is promised of one call
@@ -67,5 +67,6 @@ pub record Holds {K S Q A E W D F R : Type 0} (m : Meanings K S Q A E W D F R) (
   pub fresh : b.fresh ≡ true → Selected m.endpoints b c.ready h
   pub spent : b.fresh ≡ false → NobodyNamed h
   pub calls : EachCall CallRight h
-  pub draws : DrawsFair m.endpoints m.weights h
-  pub drawn : AlwaysDrawnAsked h
+  pub draws : DrawsRight m.endpoints m.weights h
+  pub known : (i : ℕ) → b.selected ≡ Some i → T (is_some (selected_by h))
+  pub searched : PollsSearched m.endpoints h c.ready

@@ -2,14 +2,15 @@ pub mod Cases
 pub mod Fair
 pub mod Search
 pub mod Feed
+pub mod Kept
 pub mod Logs
-pub mod Drawn
+pub mod Searches
 pub mod Naming
 pub mod Holds
+pub mod Taken
 pub mod Polls
 pub mod Calls
 pub mod Completions
-pub mod Taken
 pub mod Promised
 pub mod Loops
 pub mod Nobody

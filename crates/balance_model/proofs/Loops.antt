@@ -11,8 +11,8 @@ use Rattle.cache_model.specs.Answers.{by_check, by_pass}
 use Rattle.cache_model.specs.Cache.{Cache, Asked, poll_pending, check, load}
 use Rattle.balance_model.specs.Meanings.{Meanings}
 use Rattle.balance_model.specs.Draw.{Drawn, weigh, draw}
-use Rattle.balance_model.specs.Balance.{Settled, losing_one, settle, Sought, asks, draws, after_these, try, seek, seek_all, settle_all}
-use Rattle.std.proofs.Common.{◌≡◌, ℕ, zero, suc, ◌-◌, ◌%◌, ◌<◌, Bool, true, false, ltb, [], length, map, Some, None, Ok, Err, Option, Result, sym, refl, ap, ◌∙◌, subst, mod-lt, arith}
+use Rattle.balance_model.specs.Balance.{Settled, losing_one, settle, Sought, checks, draws, after_these, try, seek, seek_all, settle_all}
+use Rattle.std.proofs.Common.{◌≡◌, ℕ, zero, suc, ◌-◌, ◌%◌, ◌<◌, Bool, true, false, ltb, [], ◌∷◌, length, map, Some, None, Ok, Err, Option, Result, sym, refl, ap, ◌∙◌, subst, mod-lt, arith}
 use Rattle.std.proofs.lemmas.Bool.{ltb-false}
 use Rattle.cache_model.specs.declared.error.Failed.{Failed}
 use Rattle.cache_model.specs.declared.error.PendingError.{PendingError}
@@ -71,7 +71,7 @@ module _ {K S Q A E W D F R : Type 0} (m : Meanings K S Q A E W D F R) (now : �
   -- a draw leaves the number of ready workers, and is among them
   pub record DrawWithin (c : Cache K S) (d : Drawn K S R) : Type 0 where
     pub same : length d.cache.ready ≡ length c.ready
-    pub below : 0 < length c.ready → d.place < length c.ready
+    pub below : 0 < length c.ready → d.made.place < length c.ready
 
   pub draw_within : (c : Cache K S) (r : R) → DrawWithin c (draw m.endpoints m.weights now m.words c r)
   draw_within c r =
@@ -106,26 +106,26 @@ module _ {K S Q A E W D F R : Type 0} (m : Meanings K S Q A E W D F R) (now : �
       k = check m.keys m.endpoints now c i
 
       found : Sought K S E R
-      found = record { place = Some i; cache = k.after; words = r; lost = 0; steps = map asks k.asked }
+      found = record { place = Some i; cache = k.after; words = r; lost = 0; steps = map checks k.asked }
 
       fewer : suc (length k.after.ready) ≡ length c.ready → seek m now fuel k.after r ≡ seek_all m now k.after r
       fewer f = ap (λ (x : ℕ). seek m now x k.after r) (omega arith)
 
       go : (v : Result Bool (Failed K E)) → ((v ≡ Ok true → ⊥) → suc (length k.after.ready) ≡ length c.ready) →
-          by_check v found (after_these (map asks k.asked) 0 (seek m now fuel k.after r)) (after_these (map asks k.asked) 1 (seek m now fuel k.after r))
-          ≡ by_check v found (after_these (map asks k.asked) 0 (seek_all m now k.after r)) (after_these (map asks k.asked) 1 (seek_all m now k.after r))
+          by_check v found (after_these (map checks k.asked) 0 (seek m now fuel k.after r)) (after_these (map checks k.asked) 1 (seek m now fuel k.after r))
+          ≡ by_check v found (after_these (map checks k.asked) 0 (seek_all m now k.after r)) (after_these (map checks k.asked) 1 (seek_all m now k.after r))
       go (Ok true) f = refl
-      go (Ok false) f = ap (after_these (map asks k.asked) 0) (fewer (f (λ e. cc)))
-      go (Err x) f = ap (after_these (map asks k.asked) 1) (fewer (f (λ e. cc)))
+      go (Ok false) f = ap (after_these (map checks k.asked) 0) (fewer (f (λ e. cc)))
+      go (Err x) f = ap (after_these (map checks k.asked) 1) (fewer (f (λ e. cc)))
 
   -- where anybody is ready, one is drawn and tried
   pub seek_some : (c : Cache K S) (r : R) → 0 < length c.ready →
       let d = draw m.endpoints m.weights now m.words c r in
-      seek_all m now c r ≡ after_these (map draws d.draws) 0 (try m now (seek_all m now) d.place d.cache d.words)
+      seek_all m now c r ≡ after_these (draws d.made ∷ []) 0 (try m now (seek_all m now) d.made.place d.cache d.words)
   seek_some c r h =
       let d = draw m.endpoints m.weights now m.words c r in
       let w = draw_within c r in
       let e : length c.ready ≡ suc (length c.ready - 1) = omega arith in
       let s = w.same in
       ap (λ (n : ℕ). seek m now n c r) e
-      ∙ ap (after_these (map draws d.draws) 0) (try_seek (length c.ready - 1) d.place d.cache d.words (subst (λ (n : ℕ). d.place < n) (sym s) (w.below h)) (omega arith))
+      ∙ ap (after_these (draws d.made ∷ []) 0) (try_seek (length c.ready - 1) d.made.place d.cache d.words (subst (λ (n : ℕ). d.made.place < n) (sym s) (w.below h)) (omega arith))

@@ -13,7 +13,7 @@ use Rattle.std.proofs.Common.{◌≡◌, ℕ, zero, suc, ◌<◌, ◌≤◌, Boo
 use Rattle.std.proofs.lemmas.Bool.{cases_lt}
 use Rattle.cache_model.specs.declared.error.Failed.{Failed}
 
-none_left : {A : Type 0} (xs : List A) → length xs ≤ 0 → xs ≡ []
+pub none_left : {A : Type 0} (xs : List A) → length xs ≤ 0 → xs ≡ []
 none_left [] h = refl
 none_left (x ∷ xs) h = absurd (omega arith)
 
@@ -48,9 +48,9 @@ module _ {K S Q A E W D F R : Type 0} (m : Meanings K S Q A E W D F R) (now : �
       let d = draw m.endpoints m.weights now m.words c r in
       let w = draw_within m now c r in
       let same = w.same in
-      try_nobody (seek m now fuel) d.place d.cache d.words
-      (λ n. seek_nobody fuel (check m.keys m.endpoints now d.cache d.place).after d.words
-      (check_leaves fuel d.place d.cache (omega arith) (λ some. let below = w.below (omega arith) in omega arith) n))
+      try_nobody (seek m now fuel) d.made.place d.cache d.words
+      (λ n. seek_nobody fuel (check m.keys m.endpoints now d.cache d.made.place).after d.words
+      (check_leaves fuel d.made.place d.cache (omega arith) (λ some. let below = w.below (omega arith) in omega arith) n))
 
   pub select_nobody : (selected : Option ℕ) (c : Cache K S) (r : R) → NobodyLeft (select m now selected c r)
   select_nobody selected c r =

@@ -1,5 +1,5 @@
 -- A poll keeps what holds.
-use Rattle.model.specs.Options.{by_some}
+use Rattle.model.specs.Options.{by_some, Has}
 use Rattle.model.specs.Lists.{last_of, Each}
 use Rattle.model.proofs.Cases.{some_case}
 use Rattle.model.proofs.Totals.{total, total_mono}
@@ -15,17 +15,21 @@ use Rattle.balance_model.specs.declared.answer.PollError.{PollError}
 use Rattle.balance_model.specs.Answers.{named}
 use Rattle.balance_model.specs.Meanings.{Meanings}
 use Rattle.balance_model.specs.Docket.{Docket}
-use Rattle.balance_model.specs.Balance.{Balancer, asks, questions_in, draws_in, Fed, read_feed, Settled, settle, Sought, select, PollOutcome, poll, ended, serial_at}
-use Rattle.balance_model.specs.History.{History, polled, brought_in, brought, said_ready}
-use Rattle.balance_model.specs.Promise.{CountRight, DrawFair, DrawnAsked}
-use Rattle.balance_model.specs.Polls.{PollLawful}
+use Rattle.balance_model.specs.Balance.{Balancer, Step, asks, questions_in, draws_in, Fed, read_feed, Settled, settle, Sought, select, PollOutcome, poll, ended, serial_at}
+use Rattle.balance_model.specs.Search.{search_in, Search}
+use Rattle.balance_model.specs.History.{History, polled, selected_by, brought_in, brought, said_ready}
+use Rattle.balance_model.specs.Promise.{CountRight, DrawRight, PollsSearched}
+use Rattle.balance_model.specs.Polls.{selected_then, cache_then, place_then, PollLawful}
 use Rattle.balance_model.proofs.Search.{settle_keeps, select_keeps}
-use Rattle.balance_model.proofs.Feed.{FedRight, of_push, read_feed_right}
+use Rattle.balance_model.proofs.Feed.{FedRight, of_push, read_feed_right, read_feed_selected}
+use Rattle.balance_model.proofs.Kept.{settle_key, read_feed_key}
 use Rattle.balance_model.proofs.Naming.{Grants, SoughtRight, select_right}
-use Rattle.balance_model.proofs.Logs.{questions_after_asks, draws_after_asks, drawn_after_asks, draws_of_asks, drawn_of_asks}
+use Rattle.balance_model.proofs.Logs.{questions_after_asks, draws_after_asks, search_after_asks, search_alone, draws_of_asks, search_of_asks}
+use Rattle.balance_model.proofs.Searches.{select_search, selected_among}
+use Rattle.balance_model.proofs.Taken.{DrawsTook, poll_took}
 use Rattle.balance_model.proofs.Nobody.{NobodyLeft, select_nobody}
 use Rattle.balance_model.proofs.Holds.{Holds, Open}
-use Rattle.std.proofs.Common.{◌≡◌, ℕ, suc, ◌<◌, ◌≤◌, Bool, true, false, ◌⊎◌, [], ◌∷◌, ◌++◌, length, map, Some, None, Ok, Err, Option, Result, sym, refl, ap, ◌∙◌, subst, inl, inr, arith}
+use Rattle.std.proofs.Common.{◌≡◌, ℕ, suc, ◌<◌, ◌≤◌, Bool, true, false, T, is_some, ◌⊎◌, List, [], ◌∷◌, ◌++◌, length, map, Some, None, Ok, Err, Option, Result, sym, refl, ap, ◌∙◌, subst, inl, inr, arith}
 use Rattle.std.proofs.lemmas.Bool.{cases_lt}
 use Rattle.service.specs.declared.poll.Poll.TheVariants.{Ready, Pending}
 
@@ -38,10 +42,13 @@ module _ {K S Q A E W D F R : Type 0} (m : Meanings K S Q A E W D F R) (now : �
   abbrev Found : PollOutcome K S E D F R → Type 0
   Found p = (i : ℕ) × (p.balancer.selected ≡ Some i) × (g : Grants m.endpoints now p.cache.ready (questions_in p.log.steps) i) × (named p.answer ≡ Some g.entry.serial)
 
-  record PollRight (c : Cache K S) (p : PollOutcome K S E D F R) : Type 0 where
+  record PollRight (b : Balancer D R) (c : Cache K S) (p : PollOutcome K S E D F R) : Type 0 where
     fed : FedRight m.keys m.endpoints c (as_fed p)
-    fair : Each (DrawFair m.endpoints m.weights now) (draws_in p.log.steps)
-    drawn : DrawnAsked p.log.steps
+    fair : Each (DrawRight m.endpoints m.weights now) (draws_in p.log.steps)
+    searched : (over : Polled) → p.answer ≡ Ok over → Search m.endpoints now (cache_then m now b c).ready (place_then m now b c) (search_in p.log.steps) p.cache.ready
+    unsearched : (fault : PollError K F) → p.answer ≡ Err fault → search_in p.log.steps ≡ []
+    marked : (over : Polled) → p.answer ≡ Ok over → (i : ℕ) → p.balancer.selected ≡ Some i → p.balancer.fresh ≡ true
+    known : (fault : PollError K F) → p.answer ≡ Err fault → (i : ℕ) → p.balancer.selected ≡ Some i → b.selected ≡ Some i
     found : p.balancer.fresh ≡ true → Found p
     nobody : p.balancer.fresh ≡ false → named p.answer ≡ None
     empty : (lost : ℕ) → p.answer ≡ Ok (record { worker = Pending; lost = lost }) → p.cache.ready ≡ []
@@ -64,10 +71,13 @@ module _ {K S Q A E W D F R : Type 0} (m : Meanings K S Q A E W D F R) (now : �
   false_true : {P : Type 0} → false ≡ true → P
   false_true e = cc
 
+  not_faulted : {P : Type 0} {x : PollError K F} {y : Polled} → ◌≡◌ {A = Result Polled (PollError K F)} (Ok y) (Err x) → P
+  not_faulted {P} {x} {y} e = cc
+
   not_ended : {P : Type 0} {x : PollError K F} {y : Polled} → ◌≡◌ {A = Result Polled (PollError K F)} (Err x) (Ok y) → P
   not_ended {P} {x} {y} e = cc
 
-  poll_right : (b : Balancer D R) (c : Cache K S) → PollRight c (poll m now b c)
+  poll_right : (b : Balancer D R) (c : Cache K S) → PollRight b c (poll m now b c)
   poll_right b c =
       let fed = read_feed m now b.budget b.feed b.selected c in
       let fuel : ℕ = suc (length fed.cache.pending) in
@@ -76,18 +86,24 @@ module _ {K S Q A E W D F R : Type 0} (m : Meanings K S Q A E W D F R) (now : �
       let r = read_feed_right m now b.budget b.feed b.selected c in
       let one = settle_keeps m now fuel fed.cache in
       let two = keeps_trans m.keys m.endpoints fed.cache settled.cache sought.cache one (select_keeps m now fed.selected settled.cache b.words) in
-      let Goal : PollOutcome K S E D F R → Type 0 = PollRight c in
+      let Goal : PollOutcome K S E D F R → Type 0 = PollRight b c in
       some_case Goal fed.fault _ _
       (λ _. some_case Goal settled.stuck _ _
-      (λ _. ended_right b c fed settled sought (then_keeps c fed _ r two refl) (select_right m now fed.selected settled.cache b.words) (select_nobody m now fed.selected settled.cache b.words))
-      (λ k _. record { fed = then_keeps c fed _ r one refl; fair = subst (Each (DrawFair m.endpoints m.weights now)) (sym (draws_of_asks K S settled.asked)) tt; drawn = drawn_of_asks K S settled.asked; found = λ e. false_true e; nobody = λ _. refl; empty = λ _ e. not_ended e }))
-      (λ x e. record { fed = then_keeps c fed _ r (keeps_refl m.keys m.endpoints fed.cache) refl; fair = tt; drawn = tt; found = λ e. false_true e; nobody = λ _. refl; empty = λ _ e. not_ended e })
+      (λ _. ended_right b c fed settled sought (then_keeps c fed _ r two refl) (select_right m now fed.selected settled.cache b.words) (select_nobody m now fed.selected settled.cache b.words)
+      (select_search m now fed.selected settled.cache b.words))
+      (λ k _. record { fed = then_keeps c fed _ r one refl; fair = subst (Each (DrawRight m.endpoints m.weights now)) (sym (draws_of_asks K S settled.asked)) tt; searched = λ _ e. not_ended e; marked = λ _ e. not_ended e; unsearched = λ _ _. search_of_asks K S settled.asked; known = λ _ _ i e. read_feed_selected m now b.budget b.feed b.selected c i e; found = λ e. false_true e; nobody = λ _. refl; empty = λ _ e. not_ended e }))
+      (λ x e. record { fed = then_keeps c fed _ r (keeps_refl m.keys m.endpoints fed.cache) refl; fair = tt; searched = λ _ e. not_ended e; marked = λ _ e. not_ended e; unsearched = λ _ _. refl; known = λ _ _ i e. read_feed_selected m now b.budget b.feed b.selected c i e; found = λ e. false_true e; nobody = λ _. refl; empty = λ _ e. not_ended e })
     where
-      ended_right : (b : Balancer D R) (c : Cache K S) (fed : Fed K S D F) (settled : Settled K S E) (sought : Sought K S E R) → FedRight m.keys m.endpoints c (as_fed (ended m now b fed settled sought)) → SoughtRight m.endpoints m.weights now sought → NobodyLeft m now sought → PollRight c (ended m now b fed settled sought)
-      ended_right b c fed settled sought r right none = record {
+      ended_right : (b : Balancer D R) (c : Cache K S) (fed : Fed K S D F) (settled : Settled K S E) (sought : Sought K S E R) → FedRight m.keys m.endpoints c (as_fed (ended m now b fed settled sought)) → SoughtRight m.endpoints m.weights now sought → NobodyLeft m now sought →
+          Search m.endpoints now (cache_then m now b c).ready (place_then m now b c) sought.steps sought.cache.ready → PollRight b c (ended m now b fed settled sought)
+      ended_right b c fed settled sought r right none search = record {
         fed = r;
-        fair = subst (Each (DrawFair m.endpoints m.weights now)) (sym (draws_after_asks settled.asked sought.steps)) right.fair;
-        drawn = drawn_after_asks settled.asked sought.steps right.drawn;
+        fair = subst (Each (DrawRight m.endpoints m.weights now)) (sym (draws_after_asks settled.asked sought.steps)) right.fair;
+        searched = λ _ _. subst (λ (steps : List (Step K S E)). Search m.endpoints now (cache_then m now b c).ready (place_then m now b c) steps sought.cache.ready)
+            (sym (search_after_asks settled.asked sought.steps ∙ search_alone m.endpoints now _ _ sought.steps _ search)) search;
+        unsearched = λ _ e. not_faulted e;
+        marked = λ _ _ i e. ap (λ (o : Option ℕ). by_some o false (λ _. true)) e;
+        known = λ _ e. not_faulted e;
         found = found_at sought.place right.found;
         nobody = nobody_at sought.place;
         empty = λ lost e. none (nowhere sought.place right.found (ap worker_of e));
@@ -121,11 +137,11 @@ module _ {K S Q A E W D F R : Type 0} (m : Meanings K S Q A E W D F R) (now : �
               cc
 
   -- the laws of a poll
-  pub poll_lawful : (b : Balancer D R) (c : Cache K S) → PollLawful m.endpoints m.weights now (poll m now b c)
-  poll_lawful b c = go (poll m now b c) (poll_right b c)
+  pub poll_lawful : (b : Balancer D R) (c : Cache K S) → PollLawful m now b c (poll m now b c)
+  poll_lawful b c = go (poll m now b c) (poll_right b c) (poll_took m now b c)
     where
-      go : (p : PollOutcome K S E D F R) → PollRight c p → PollLawful m.endpoints m.weights now p
-      go p r = record {
+      go : (p : PollOutcome K S E D F R) → PollRight b c p → DrawsTook m b.words (draws_in p.log.steps) p.balancer.words → PollLawful m now b c p
+      go p r took = record {
         granted = λ serial e. let f = found serial e in let same = is_named serial e f in f.2.last ∙ ap (λ (s : ℕ). Some (said_ready s)) same;
         selected = λ serial e.
             let f = found serial e in
@@ -134,7 +150,16 @@ module _ {K S Q A E W D F R : Type 0} (m : Meanings K S Q A E W D F R) (now : �
             ∙ ap Ready (is_named serial e f);
         nobody = r.empty;
         shares = r.fair;
-        drawn_asked = r.drawn;
+        searched = r.searched;
+        unsearched = r.unsearched;
+        words = took;
+        still = λ i place. read_feed_selected m now b.budget b.feed b.selected c i (selected_among (selected_then m now b c) (length (cache_then m now b c).ready) i place);
+        kept = λ i e place here.
+            let fed = read_feed m now b.budget b.feed b.selected c in
+            settle_key e.key m.keys m.endpoints now (suc (length fed.cache.pending)) fed.cache i
+            (read_feed_key m now e.key b.budget b.feed b.selected c i
+            (selected_among (selected_then m now b c) (length (cache_then m now b c).ready) i place)
+            (subst (λ (o : Option (Entry K S)). Has o (λ f. f.key ≡ e.key)) (sym here) refl));
       }
         where
           by_fresh : (t : Bool) → p.balancer.fresh ≡ t → (serial : ℕ) → named p.answer ≡ Some serial → Found p
@@ -152,7 +177,7 @@ module _ {K S Q A E W D F R : Type 0} (m : Meanings K S Q A E W D F R) (now : �
       Holds m (poll m now b c).balancer (poll m now b c).cache d (polled now (poll m now b c).log (poll m now b c).answer ∷ h)
   poll_holds b c d h o = go (poll m now b c) (poll_right b c)
     where
-      go : (p : PollOutcome K S E D F R) → PollRight c p → Holds m p.balancer p.cache d (polled now p.log p.answer ∷ h)
+      go : (p : PollOutcome K S E D F R) → PollRight b c p → Holds m p.balancer p.cache d (polled now p.log p.answer ∷ h)
       go p r =
           let fed = r.fed in
           let new : History K S A E F = polled now p.log p.answer ∷ h in
@@ -171,9 +196,23 @@ module _ {K S Q A E W D F R : Type 0} (m : Meanings K S Q A E W D F R) (now : �
             spent = λ e. inr (inl (r.nobody e));
             calls = o.calls;
             draws = (r.fair, o.draws);
-            drawn = (r.drawn, o.drawn);
+            known = λ i e. known_by p.answer refl i e;
+            searched = searched_by p.answer refl;
           }
         where
+          known_by : (v : Result Polled (PollError K F)) → p.answer ≡ v → (i : ℕ) → p.balancer.selected ≡ Some i → T (is_some (selected_by (polled now p.log v ∷ h)))
+          known_by (Ok over) e i chosen =
+              let f = r.found (r.marked over e i chosen) in
+              subst (λ (v : Result Polled (PollError K F)). T (is_some (named v))) e (subst (λ (o : Option ℕ). T (is_some o)) (sym f.3) tt)
+          known_by (Err fault) e i chosen = o.known i (r.known fault e i chosen)
+
+          searched_by : (v : Result Polled (PollError K F)) → p.answer ≡ v → PollsSearched m.endpoints (polled now p.log v ∷ h) p.cache.ready
+          searched_by (Ok over) e =
+              let still : (i : ℕ) → place_then m now b c ≡ Some i → T (is_some (selected_by h)) = λ i k.
+              o.known i (read_feed_selected m now b.budget b.feed b.selected c i (selected_among (selected_then m now b c) (length (cache_then m now b c).ready) i k)) in
+              (record { ready = (cache_then m now b c).ready; place = place_then m now b c; selected = still; search = r.searched over e }, (c.ready, o.searched))
+          searched_by (Err fault) e = (r.unsearched fault e, (c.ready, o.searched))
+
           serial : (s : ℕ) → (s < c.next) ⊎ (c.next ≤ s) → sum_held m.keys m.endpoints (is_serial s) p.cache ≤ 1
           serial s (inl low) = let a = r.fed.sums (is_serial s) in let b = r.fed.below s low in let z = o.serials s in omega arith
           serial s (inr high) = let a = r.fed.sums (is_serial s) in let b = r.fed.once s in let z = o.below s high in omega arith

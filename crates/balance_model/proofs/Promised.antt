@@ -12,7 +12,7 @@ use Rattle.balance_model.specs.declared.pick.Pick.{Pick}
 use Rattle.balance_model.specs.Meanings.{Meanings}
 use Rattle.balance_model.specs.Balance.{Making, Sent}
 use Rattle.balance_model.specs.History.{History, polled, called, completed, Run, apply, apply_all, starting, draws_of}
-use Rattle.balance_model.specs.Promise.{EachCall, ReachedNamed, SixThen, NotThreeOrFour, CountRight, Took, Promise}
+use Rattle.balance_model.specs.Promise.{EachCall, ReachedNamed, SixThen, NotThreeOrFour, CountRight, words_in, Took, Promise}
 use Rattle.balance_model.proofs.Holds.{Holds, CallRight}
 use Rattle.balance_model.proofs.Polls.{poll_holds}
 use Rattle.balance_model.proofs.Calls.{call_holds}
@@ -40,7 +40,8 @@ module _ {K S Q A E W D F R : Type 0} (m : Meanings K S Q A E W D F R) where
     spent = λ _. inl refl;
     calls = tt;
     draws = tt;
-    drawn = tt;
+    known = λ i e. cc;
+    searched = tt;
   }
 
   one_pick : (run : Run K S A E D F R) (p : Pick Q) → RunHolds run → RunHolds (apply m run p)
@@ -69,7 +70,7 @@ module _ {K S Q A E W D F R : Type 0} (m : Meanings K S Q A E W D F R) where
   each_call P Q' f (called now answer ∷ h) e = (f h answer e.0, each_call P Q' f h e.1)
   each_call P Q' f (completed now ticket answer ∷ h) e = each_call P Q' f h e
 
-  kept : (made : Making D R) (run : Run K S A E D F R) → RunHolds run → Took m.words made.words (draws_of run.history) run.state.balancer.words → Promise m made run
+  kept : (made : Making D R) (run : Run K S A E D F R) → RunHolds run → Took m.words made.words (words_in (draws_of run.history)) run.state.balancer.words → Promise m made run
   kept made run o t = record {
     sent = each_call CallRight ReachedNamed (λ h a r. r.reached) run.history o.calls;
     six = each_call CallRight SixThen (λ h a r. r.six) run.history o.calls;
@@ -81,7 +82,7 @@ module _ {K S Q A E W D F R : Type 0} (m : Meanings K S Q A E W D F R) where
         (each_count run.history run.state.cache o.counts run.state.cache.pending (λ s n. omega arith));
     words = t;
     shares = o.draws;
-    drawn_asked = o.drawn;
+    searched = o.searched;
   }
 
   -- of every run

@@ -47,7 +47,7 @@ module _ {K S Q A E W D F R : Type 0} (m : Meanings K S Q A E W D F R) (now : �
       let d = draw m.endpoints m.weights now m.words c r in
       keeps_trans m.keys m.endpoints c d.cache _
       (draw_keeps m.keys m.endpoints m.weights now m.words c r)
-      (try_keeps (seek m now fuel) (seek_keeps fuel) d.place d.cache d.words)
+      (try_keeps (seek m now fuel) (seek_keeps fuel) d.made.place d.cache d.words)
 
   pub select_keeps : (selected : Option ℕ) (c : Cache K S) (r : R) → Kept c (select m now selected c r).cache
   select_keeps selected c r =

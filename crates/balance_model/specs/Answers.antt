@@ -16,8 +16,6 @@ use Rattle.balance_model.specs.declared.answer.Completion.{Completion}
 use Rattle.balance_model.specs.declared.answer.Completion.TheVariants.{Held, Gone}
 use Rattle.balance_model.specs.declared.pick.Answer.{Answer}
 use Rattle.balance_model.specs.declared.pick.Answer.TheVariants as answer
-use Rattle.balance_model.specs.declared.pick.Pick.{Pick}
-use Rattle.balance_model.specs.declared.pick.Pick.TheVariants as pick
 
 -- what the end of a poll says: the feed's fault has the number 12 and its error, the cache's the cache's number and key
 pub record PollErrorReport (K F : Type 0) : Type 0 where
@@ -59,16 +57,25 @@ abbrev pub named : {K F : Type 0} → Result Polled (PollError K F) → Option �
 named (Ok p) = (poll_report p.worker).value
 named (Err e) = None
 
-abbrev pub instant : {Q : Type 0} → Pick Q → ℕ
-instant (pick.Poll at) = at
-instant (pick.Call request at) = at
-instant (pick.Complete ticket at) = at
+-- what an answer says, whichever pick it is of: the worker named, the number of a refusal or a fault, the workers lost, the ticket and the response of a request sent, whether a completed one's worker was held, and what a fault carries
+pub record AnswerReport (K A F : Type 0) : Type 0 where
+  pub number : Option ℕ
+  pub named : Option ℕ
+  pub lost : Option ℕ
+  pub ticket : Option ℕ
+  pub response : Option A
+  pub held : Option Bool
+  pub key : Option K
+  pub error : Option F
 
--- the number of an answer, whichever pick it is of
-abbrev pub answer_number : {K A F : Type 0} → Answer K A F → Option ℕ
-answer_number (answer.Polled (Ok p)) = (poll_report p.worker).number
-answer_number (answer.Polled (Err e)) = Some (poll_error_report e).number
-answer_number (answer.Called (Ok sent)) = None
-answer_number (answer.Called (Err e)) = Some (call_error_number e)
-answer_number (answer.Completed (Ok over)) = (completion_report over).number
-answer_number (answer.Completed (Err e)) = Some (complete_number e)
+-- a refusal of this number, or an answer that says nothing
+abbrev pub just : {K A F : Type 0} → Option ℕ → AnswerReport K A F
+just number = record { number = number; named = None; lost = None; ticket = None; response = None; held = None; key = None; error = None }
+
+abbrev pub answer_report : {K A F : Type 0} → Answer K A F → AnswerReport K A F
+answer_report (answer.Polled (Ok p)) = record (just (poll_report p.worker).number) { named = (poll_report p.worker).value; lost = Some p.lost }
+answer_report (answer.Polled (Err e)) = record (just (Some (poll_error_report e).number)) { key = (poll_error_report e).key; error = (poll_error_report e).error }
+answer_report (answer.Called (Ok sent)) = record (just None) { ticket = Some sent.0; response = Some sent.1 }
+answer_report (answer.Called (Err e)) = just (Some (call_error_number e))
+answer_report (answer.Completed (Ok over)) = record (just (completion_report over).number) { held = Some (completion_report over).held }
+answer_report (answer.Completed (Err e)) = just (Some (complete_number e))

@@ -71,10 +71,11 @@ pub record Pushed (S : Type 0) : Type 0 where
   pub serial : ℕ
   pub worker : S
 
--- a step of a poll: a question is put to a worker, or one of two or more is drawn
+-- a step of a poll: a pending worker is asked, one of the ready is drawn, or a ready one is checked
 pub data Step (K S E : Type 0) : Type 0 where
   asks : Question E → Step K S E
   draws : Draw K S → Step K S E
+  checks : Question E → Step K S E
 
 -- the log of a poll, oldest first: the pushes, and then the steps
 pub record Log (K S E : Type 0) : Type 0 where
@@ -82,16 +83,18 @@ pub record Log (K S E : Type 0) : Type 0 where
   pub steps : List (Step K S E)
 
 module _ {K S E : Type 0} where
-  -- the questions of these steps, and the draws
+  -- the questions of these steps, to pending and to ready workers
   abbrev pub questions_in : List (Step K S E) → List (Question E)
   questions_in [] = []
   questions_in (asks q ∷ steps) = q ∷ questions_in steps
   questions_in (draws d ∷ steps) = questions_in steps
+  questions_in (checks q ∷ steps) = q ∷ questions_in steps
 
   abbrev pub draws_in : List (Step K S E) → List (Draw K S)
   draws_in [] = []
   draws_in (asks q ∷ steps) = draws_in steps
   draws_in (draws d ∷ steps) = d ∷ draws_in steps
+  draws_in (checks q ∷ steps) = draws_in steps
 
 -- ---- reading the feed
 
@@ -232,16 +235,16 @@ module _ {K S Q A E W D F R : Type 0} (m : Meanings K S Q A E W D F R) (now : �
   try more i c r =
       let k = check m.keys m.endpoints now c i in
       by_check k.answer
-      (record { place = Some i; cache = k.after; words = r; lost = 0; steps = map asks k.asked })
-      (after_these (map asks k.asked) 0 (more k.after r))
-      (after_these (map asks k.asked) 1 (more k.after r))
+      (record { place = Some i; cache = k.after; words = r; lost = 0; steps = map checks k.asked })
+      (after_these (map checks k.asked) 0 (more k.after r))
+      (after_these (map checks k.asked) 1 (more k.after r))
 
   -- draws until one says Ready or none is ready; each that does not leaves, so `fuel` of the ready length never runs out
   abbrev pub seek : ℕ → Cache K S → R → Sought K S E R
   seek zero c r = record { place = None; cache = c; words = r; lost = 0; steps = [] }
   seek (suc fuel) c r =
       let d = draw m.endpoints m.weights now m.words c r in
-      after_these (map draws d.draws) 0 (try (seek fuel) d.place d.cache d.words)
+      after_these (draws d.made ∷ []) 0 (try (seek fuel) d.made.place d.cache d.words)
 
   abbrev pub seek_all : Cache K S → R → Sought K S E R
   seek_all c r = seek (length c.ready) c r

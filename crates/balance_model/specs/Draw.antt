@@ -12,19 +12,17 @@ pub record Weighed (K S : Type 0) : Type 0 where
   pub place : ℕ
   pub cache : Cache K S
 
--- a draw as it was made: the ready list before it, the two words, and the place drawn
+-- a draw as it was made: the ready list before it, the words that it took, and the place drawn
 pub record Draw (K S : Type 0) : Type 0 where
   pub before : List (Entry K S)
-  pub first : ℕ
-  pub second : ℕ
+  pub words : List ℕ
   pub place : ℕ
 
--- what a draw leaves: the place, the cache with the loads read, the words; and the draw itself, if words were taken
+-- the draw that was made, and what it leaves: the cache with the loads read, and the source of words
 pub record Drawn (K S R : Type 0) : Type 0 where
-  pub place : ℕ
+  pub made : Draw K S
   pub cache : Cache K S
   pub words : R
-  pub draws : List (Draw K S)
 
 module _ {K S Q A E W : Type 0} (ends : Endpoints S Q A E W) (weights : Weights W) (now : ℕ) where
   -- a's load is read before b's, and a wins if it is not heavier
@@ -45,5 +43,5 @@ module _ {K S Q A E W : Type 0} (ends : Endpoints S Q A E W) (weights : Weights 
       let w : ℕ = nth_word source r 1 in
       let won = weigh c (first_place n (v % (n - 1)) (w % n)) (w % n) in
       cond (nat_lt n 2)
-      (record { place = 0; cache = c; words = r; draws = [] })
-      (record { place = won.place; cache = won.cache; words = after_two source r; draws = record { before = c.ready; first = v; second = w; place = won.place } ∷ [] })
+      (record { made = record { before = c.ready; words = []; place = 0 }; cache = c; words = r })
+      (record { made = record { before = c.ready; words = v ∷ w ∷ []; place = won.place }; cache = won.cache; words = after_two source r })

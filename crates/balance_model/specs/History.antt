@@ -101,6 +101,15 @@ module _ {K S A E F : Type 0} where
   abbrev pub named_by_latest : History K S A E F → Option ℕ
   named_by_latest h = by_some (latest_poll h) None (λ l. named l.answer)
 
+  -- the selected worker: the latest poll that came to its end named it, and no request was sent since
+  abbrev pub selected_by : History K S A E F → Option ℕ
+  selected_by [] = None
+  selected_by (polled at log (Ok p) ∷ h) = named {K = K} {F = F} (Ok p)
+  selected_by (polled at log (Err e) ∷ h) = selected_by h
+  selected_by (called at (Ok sent) ∷ h) = None
+  selected_by (called at (Err r) ∷ h) = selected_by h
+  selected_by (completed at ticket answer ∷ h) = selected_by h
+
   -- the worker granted in the latest poll
   abbrev pub GrantedInLatest : History K S A E F → ℕ → Type 0
   GrantedInLatest h serial = Has (latest_poll h) (λ l. Granted l.log serial)

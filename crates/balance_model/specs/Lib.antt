@@ -3,6 +3,7 @@ pub mod Answers
 pub mod Docket
 pub mod Draw
 pub mod Balance
+pub mod Search
 pub mod History
 pub mod Promise
 pub mod Polls

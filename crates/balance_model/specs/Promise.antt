@@ -1,10 +1,10 @@
 -- What is promised of every run.
-use Rattle.std.specs.Prelude.{◌≡◌, ℕ, ◌+◌, ◌-◌, ◌%◌, ◌<◌, ◌≤◌, Bool, false, T, ◌⊎◌, ◌↔◌, List, [], ◌∷◌, ◌++◌, length, Some, None, Ok, Err, Option, Result}
+use Rattle.std.specs.Prelude.{◌≡◌, ℕ, ◌+◌, ◌-◌, ◌%◌, ◌<◌, ◌≤◌, Bool, false, T, is_some, ◌⊎◌, ◌↔◌, List, [], ◌∷◌, ◌++◌, length, Some, None, Ok, Err, Option, Result}
 use Rattle.model.specs.Options.{by_some}
 use Rattle.model.specs.Lists.{how_many, at, Each}
 use Rattle.sampling.specs.Pairs.{OnePairEach}
 use Rattle.sampling.specs.Shares.{won_by, Share}
-use Rattle.rng.specs.Words.{Words, nth_word, after_two}
+use Rattle.rng.specs.Words.{Words}
 use Rattle.service.specs.Meaning.{Endpoints, Weights}
 use Rattle.cache_model.specs.declared.entry.Entry.{Entry}
 use Rattle.cache_model.specs.Cache.{Cache}
@@ -13,8 +13,9 @@ use Rattle.balance_model.specs.declared.answer.CallError.{CallError}
 use Rattle.balance_model.specs.Answers.{call_error_number}
 use Rattle.balance_model.specs.Meanings.{Meanings}
 use Rattle.balance_model.specs.Draw.{Draw}
-use Rattle.balance_model.specs.Balance.{Step, asks, draws, draws_in, Making, Sent}
-use Rattle.balance_model.specs.History.{History, polled, called, completed, latest_poll, named_by_latest, GrantedInLatest, sent_since, brought, sent_to, is_completed, draws_of, Run}
+use Rattle.balance_model.specs.Balance.{Step, draws_in, Making, Sent}
+use Rattle.balance_model.specs.Search.{search_in, Search}
+use Rattle.balance_model.specs.History.{History, polled, called, completed, latest_poll, named_by_latest, selected_by, GrantedInLatest, sent_since, brought, sent_to, is_completed, draws_of, Run}
 
 -- ---- calls
 
@@ -67,53 +68,53 @@ module _ {K S Q A E W : Type 0} (ends : Endpoints S Q A E W) (weights : Weights 
   abbrev pub not_heavier_at : List (Entry K S) → ℕ → ℕ → Bool
   not_heavier_at rs i j = by_some (at rs i) false (λ e. by_some (at rs j) false (λ f. weights.not_heavier (ends.weight e.endpoint now) (ends.weight f.endpoint now)))
 
-  -- a draw among two or more: the place is the one that the words' remainders make win, and each place has its share of the remainder pairs
+  -- a draw among two or more: two words are taken, the place is the one that their remainders make win, and each place has its share of the remainder pairs
   pub record DrawFair (d : Draw K S) : Type 0 where
     pub among : 2 ≤ length d.before
-    pub drawn : d.place ≡ won_by (not_heavier_at d.before) (length d.before) (d.first % (length d.before - 1)) (d.second % length d.before)
+    pub first : ℕ
+    pub second : ℕ
+    pub words : d.words ≡ first ∷ second ∷ []
+    pub drawn : d.place ≡ won_by (not_heavier_at d.before) (length d.before) (first % (length d.before - 1)) (second % length d.before)
     pub pairs : OnePairEach (length d.before)
     pub shares : (i : ℕ) → i < length d.before → Share (not_heavier_at d.before) (length d.before) i
 
+  -- the only ready worker is drawn without a word
+  abbrev pub DrawRight : Draw K S → Type 0
+  DrawRight d = ((length d.before ≡ 1) × (d.words ≡ [])) ⊎ DrawFair d
+
 module _ {K S Q A E W F : Type 0} (ends : Endpoints S Q A E W) (weights : Weights W) where
-  -- every draw of every poll is fair
-  abbrev pub DrawsFair : History K S A E F → Type 0
-  DrawsFair [] = Unit {0}
-  DrawsFair (polled now log answer ∷ h) = Each (DrawFair ends weights now) (draws_in log.steps) × DrawsFair h
-  DrawsFair (called now answer ∷ h) = DrawsFair h
-  DrawsFair (completed now ticket answer ∷ h) = DrawsFair h
+  -- so is every draw of every poll
+  abbrev pub DrawsRight : History K S A E F → Type 0
+  DrawsRight [] = Unit {0}
+  DrawsRight (polled now log answer ∷ h) = Each (DrawRight ends weights now) (draws_in log.steps) × DrawsRight h
+  DrawsRight (called now answer ∷ h) = DrawsRight h
+  DrawsRight (completed now ticket answer ∷ h) = DrawsRight h
 
--- the serial of the worker that a draw takes
-abbrev pub drawn_serial : {K S : Type 0} → Draw K S → Option ℕ
-drawn_serial d = by_some (at d.before d.place) None (λ e. Some e.serial)
+module _ {K S Q A E W F : Type 0} (ends : Endpoints S Q A E W) where
+  -- a poll that followed these events searched, and left these ready; the first worker that it asked was drawn, unless one was selected by then
+  pub record Searched (now : ℕ) (before : History K S A E F) (steps : List (Step K S E)) (left : List (Entry K S)) : Type 0 where
+    pub ready : List (Entry K S)
+    pub place : Option ℕ
+    pub selected : (i : ℕ) → place ≡ Some i → T (is_some (selected_by before))
+    pub search : Search ends now ready place (search_in steps) left
 
-module _ {K S E : Type 0} where
-  -- the serial to which the first question of these steps goes
-  abbrev pub next_asked : List (Step K S E) → Option ℕ
-  next_asked [] = None
-  next_asked (asks q ∷ steps) = Some q.serial
-  next_asked (draws d ∷ steps) = next_asked steps
+  -- so did each poll of a history: the newest event left these ready, and each one before it some
+  abbrev pub PollsSearched : History K S A E F → List (Entry K S) → Type 0
+  PollsSearched [] left = Unit {0}
+  PollsSearched (polled now log (Ok p) ∷ h) left = Searched now h log.steps left × ((ready : List (Entry K S)) × PollsSearched h ready)
+  PollsSearched (polled now log (Err e) ∷ h) left = (search_in log.steps ≡ []) × ((ready : List (Entry K S)) × PollsSearched h ready)
+  PollsSearched (called now answer ∷ h) left = (ready : List (Entry K S)) × PollsSearched h ready
+  PollsSearched (completed now ticket answer ∷ h) left = (ready : List (Entry K S)) × PollsSearched h ready
 
-  -- the steps after a draw put their next question to the worker drawn
-  abbrev pub AsksDrawn : Draw K S → List (Step K S E) → Type 0
-  AsksDrawn d steps = (serial : ℕ) × (drawn_serial d ≡ Some serial) × (next_asked steps ≡ Some serial)
+-- the words that these draws took
+abbrev pub words_in : {K S : Type 0} → List (Draw K S) → List ℕ
+words_in [] = []
+words_in (d ∷ ds) = d.words ++ words_in ds
 
-  -- so it is after each draw
-  abbrev pub DrawnAsked : List (Step K S E) → Type 0
-  DrawnAsked [] = Unit {0}
-  DrawnAsked (asks q ∷ steps) = DrawnAsked steps
-  DrawnAsked (draws d ∷ steps) = AsksDrawn d steps × DrawnAsked steps
-
--- and in each poll of a history
-abbrev pub AlwaysDrawnAsked : {K S A E F : Type 0} → History K S A E F → Type 0
-AlwaysDrawnAsked [] = Unit {0}
-AlwaysDrawnAsked (polled now log answer ∷ h) = DrawnAsked log.steps × AlwaysDrawnAsked h
-AlwaysDrawnAsked (called now answer ∷ h) = AlwaysDrawnAsked h
-AlwaysDrawnAsked (completed now ticket answer ∷ h) = AlwaysDrawnAsked h
-
--- the words of these draws are the next ones of a source, two for each and no other: from r they lead to the end
-abbrev pub Took : {K S R : Type 0} → Words R → R → List (Draw K S) → R → Type 0
+-- the source gives these words, from r on, and is then at the end
+abbrev pub Took : {R : Type 0} → Words R → R → List ℕ → R → Type 0
 Took source r [] end = end ≡ r
-Took source r (d ∷ ds) end = (d.first ≡ nth_word source r 0) × (d.second ≡ nth_word source r 1) × Took source (after_two source r) ds end
+Took source r (w ∷ ws) end = ((source.word r).answer ≡ w) × Took source (source.word r).after ws end
 
 -- ---- all together
 
@@ -124,6 +125,6 @@ pub record Promise {K S Q A E W D F R : Type 0} (m : Meanings K S Q A E W D F R)
   pub keys : KeysOnce m.keys run.state.cache
   pub serials : SerialsOnce run.state.cache
   pub counts : CountsRight m.endpoints.count run.history run.state.cache
-  pub words : Took m.words made.words (draws_of run.history) run.state.balancer.words
-  pub shares : DrawsFair m.endpoints m.weights run.history
-  pub drawn_asked : AlwaysDrawnAsked run.history
+  pub words : Took m.words made.words (words_in (draws_of run.history)) run.state.balancer.words
+  pub shares : DrawsRight m.endpoints m.weights run.history
+  pub searched : PollsSearched m.endpoints run.history run.state.cache.ready

@@ -1,7 +1,7 @@
 // What the answers of the balancer's calls say: the number of a refusal or a fault, as programs print it, and what else they carry.
 // Cases with contents are matched: `as` takes the number of a case without any.
 ghost use Rattle.std.specs.Prelude.{◌≡◌};
-ghost use Rattle.balance_model.specs.Answers.{poll_error_report, docket_number, call_error_number, complete_number, completion_report, answer_number};
+ghost use Rattle.balance_model.specs.Answers.{poll_error_report, docket_number, call_error_number, complete_number, completion_report, answer_report};
 
 use crate::answer::{CallError, CompleteError, Completion, DocketRefusal, PollError};
 use crate::pick::Answer;
@@ -84,12 +84,82 @@ impl Completion {
 impl<K: Copy, A: Copy, F: Copy> Answer<K, A, F> {
     /// The number of a refusal or a fault; other answers have none.
     pub fn number(&self) -> Option<u8>
-        ensures { result ≡ answer_number self.now }
+        ensures { result ≡ (answer_report self.now).number }
     {
         match self {
             Answer::Polled(Err(error)) => Some(error.number()),
             Answer::Called(Err(error)) => Some(error.number()),
             Answer::Completed(Err(error)) => Some(error.number()),
+            _ => None,
+        }
+    }
+
+    /// The serial of the worker that a poll names.
+    pub fn named(&self) -> Option<u64>
+        ensures { result ≡ (answer_report self.now).named }
+    {
+        match self {
+            Answer::Polled(Ok(polled)) => polled.worker.ready(),
+            _ => None,
+        }
+    }
+
+    /// How many workers a poll lost that came to its end.
+    pub fn lost(&self) -> Option<u32>
+        ensures { result ≡ (answer_report self.now).lost }
+    {
+        match self {
+            Answer::Polled(Ok(polled)) => Some(polled.lost),
+            _ => None,
+        }
+    }
+
+    /// The ticket of a request that was sent.
+    pub fn ticket(&self) -> Option<u64>
+        ensures { result ≡ (answer_report self.now).ticket }
+    {
+        match self {
+            Answer::Called(Ok((ticket, _))) => Some(*ticket),
+            _ => None,
+        }
+    }
+
+    /// The response to a request that was sent.
+    pub fn response(&self) -> Option<A>
+        ensures { result ≡ (answer_report self.now).response }
+    {
+        match self {
+            Answer::Called(Ok((_, response))) => Some(*response),
+            _ => None,
+        }
+    }
+
+    /// Whether the worker of a completed request was still held.
+    pub fn is_held(&self) -> Option<bool>
+        ensures { result ≡ (answer_report self.now).held }
+    {
+        match self {
+            Answer::Completed(Ok(completion)) => Some(completion.is_held()),
+            _ => None,
+        }
+    }
+
+    /// The key of the worker that ended a poll.
+    pub fn key(&self) -> Option<K>
+        ensures { result ≡ (answer_report self.now).key }
+    {
+        match self {
+            Answer::Polled(Err(error)) => error.key(),
+            _ => None,
+        }
+    }
+
+    /// The feed's error that ended a poll.
+    pub fn error(&self) -> Option<F>
+        ensures { result ≡ (answer_report self.now).error }
+    {
+        match self {
+            Answer::Polled(Err(error)) => error.error(),
             _ => None,
         }
     }

@@ -1,8 +1,8 @@
 -- Cycles of poll, call and completion, as steps of the balancer's model.
-use Rattle.std.specs.Prelude.{◌≡◌, ℕ, zero, suc, ◌+◌, ◌-◌, ◌*◌, ◌%◌, ◌^◌, min, Some, None, Option, Result}
+use Rattle.std.specs.Prelude.{◌≡◌, ℕ, zero, suc, ◌+◌, ◌-◌, ◌*◌, ◌%◌, ◌^◌, min, Some, None, Ok, Err, Option, Result}
 use Rattle.std.specs.Option.{unwrap_or}
 use Rattle.model.specs.Outcome.{Outcome, outcome}
-use Rattle.model.specs.Options.{by_result}
+use Rattle.model.specs.Options.{by_some, by_result}
 use Rattle.service.specs.Meaning.{Sameness}
 use Rattle.service.specs.Kinds.{same_number}
 use Rattle.service.specs.declared.poll.Poll.{Poll}
@@ -14,7 +14,7 @@ use Rattle.balance_model.specs.declared.answer.PollError.{PollError}
 use Rattle.balance_model.specs.declared.pick.Pick.TheVariants as pick
 use Rattle.balance_model.specs.Docket.{docket_capacity}
 use Rattle.balance_model.specs.Meanings.{Meanings}
-use Rattle.balance_model.specs.Balance.{Making, State, Sent, poll, call}
+use Rattle.balance_model.specs.Balance.{Making, State, poll, call, call_answer}
 use Rattle.balance_model.specs.History.{after}
 use Rattle.rng.specs.declared.hasher_rng.HasherRng.{HasherRng}
 use Rattle.rng.specs.Sources.{hasher_start}
@@ -23,10 +23,15 @@ use Rattle.rng.specs.Sources.{hasher_start}
 abbrev pub numbers : Sameness ℕ
 numbers = same_number (λ k. k)
 
--- what is made of the value in a Ready; at Pending the first
-abbrev pub by_poll : {A B : Type 0} → Poll A → B → (A → B) → B
-by_poll Pending b f = b
-by_poll (Ready a) b f = f a
+-- the serial in a Ready
+abbrev pub ready_serial : Poll ℕ → Option ℕ
+ready_serial (Ready serial) = Some serial
+ready_serial Pending = None
+
+-- the serial of the worker that a poll named; none where it named nobody or was ended
+abbrev pub named_serial : {F : Type 0} → Result Polled (PollError ℕ F) → Option ℕ
+named_serial (Ok polled) = ready_serial polled.worker
+named_serial (Err e) = None
 
 -- what is answered and left is this
 pub record Leaves {A S : Type 0} (o : Outcome A S) (answer : A) (after : S) : Type 0 where
@@ -35,26 +40,21 @@ pub record Leaves {A S : Type 0} (o : Outcome A S) (answer : A) (after : S) : Ty
 
 module _ {S E W D F R : Type 0} (m : Meanings ℕ S ℕ ℕ E W D F R) (late : ℕ) where
   -- what came of a call of the worker with this serial: the serial and the response added up, and the ticket `late` before completed; none where the call was refused
-  abbrev pub called : ℕ → ℕ → Result (Sent ℕ) CallError → State ℕ S D R → Outcome (Option ℕ) (State ℕ S D R)
+  abbrev pub called : ℕ → ℕ → Result (ℕ × ℕ) CallError → State ℕ S D R → Outcome (Option ℕ) (State ℕ S D R)
   called now serial answer st =
       by_result answer
-      (λ sent. outcome (Some ((serial + sent.response) % 2 ^ 64)) (after m st (pick.Complete (sent.ticket - late) now)))
+      (λ (ticket, response). outcome (Some ((serial + response) % 2 ^ 64)) (after m st (pick.Complete (ticket - late) now)))
       (λ _. outcome None st)
 
   -- the request 0 to the worker that the latest poll named
   unfoldable pub request : ℕ → ℕ → State ℕ S D R → Outcome (Option ℕ) (State ℕ S D R)
-  request now serial st = called now serial (call m now st 0).answer (call m now st 0).after
+  request now serial st = called now serial (call_answer (call m now st 0).answer) (call m now st 0).after
 
-  -- what came of a poll: a request to the worker that it named, and none where it named nobody
-  abbrev pub polled : ℕ → Result Polled (PollError ℕ F) → State ℕ S D R → Outcome (Option ℕ) (State ℕ S D R)
-  polled now answer st =
-      by_result answer
-      (λ p. by_poll p.worker (outcome None st) (λ serial. request now serial st))
-      (λ _. outcome None st)
-
-  -- one cycle
+  -- one cycle: a poll, and a request to the worker that it named; none where it named nobody
   unfoldable pub cycle : ℕ → State ℕ S D R → Outcome (Option ℕ) (State ℕ S D R)
-  cycle now st = polled now (poll m now st.balancer st.cache).answer (after m st (pick.Poll now))
+  cycle now st =
+      let polled = after m st (pick.Poll now) in
+      by_some (named_serial (poll m now st.balancer st.cache).answer) (outcome None polled) (λ serial. request now serial polled)
 
   -- so many cycles, at the instants 0, 1000, 2000 and so on: the sum of what they answer, modulo 2^64
   unfoldable pub cycles : ℕ → State ℕ S D R → Outcome ℕ (State ℕ S D R)

@@ -3,9 +3,9 @@
 
 ghost use Rattle.std.specs.Prelude.{◌≡◌, ◌++◌, ◌⊎◌, Some, IfSome, OnSome};
 ghost use Rattle.rng.specs.Sources.{hasher_words};
-ghost use Rattle.balance_model.specs.Balance.{newly_made};
+ghost use Rattle.balance_model.specs.Balance.{newly_made, poll};
 ghost use Rattle.balance.specs.Steps.{kinds, state};
-ghost use Rattle.cycles.specs.Cycles.{numbers, Leaves, request, cycle, cycles, making};
+ghost use Rattle.cycles.specs.Cycles.{numbers, Leaves, named_serial, request, cycle, cycles, making};
 ghost use Rattle.load.specs.Pending.{with_none_out};
 ghost use Rattle.discover.specs.Feeds.{each_inserted};
 ghost use Rattle.cycles.specs.Repeating.{GivesRounds};
@@ -93,7 +93,8 @@ impl Shape {
     // The answers of the feed: first all workers.
     #[tactic(auto, using(crate::proofs::Listing::none_below, crate::proofs::Listing::one_more_below))]
     fn arrivals(&self, heap: Global) -> Option<Answers<Patterned>>
-        ensures { IfSome result (λ answers. answers.items ≡ arrivals self.now.workers (number_of self.now.unready)) }
+        ensures { IfSome result (λ answers.
+            answers.items ≡ arrivals self.now.workers (number_of self.now.unready)) }
     {
         let mut answers = Vec::new(heap);
         for key in 0..self.workers {
@@ -110,7 +111,8 @@ impl Shape {
         every: NonZeroU32,
         cycle: u32,
     ) -> Option<()>
-        ensures { OnSome result (answers.new.items ≡ answers.old.items ++ turn self.now.workers (number_of self.now.unready) (non_zero_u32_get every) cycle) }
+        ensures { OnSome result (answers.new.items ≡ answers.old.items ++
+            turn self.now.workers (number_of self.now.unready) (non_zero_u32_get every) cycle) }
     {
         if cycle % every == 0 {
             let key = cycle % self.workers.max(1);
@@ -124,7 +126,8 @@ impl Shape {
     // And then, over and over, those that leave and come back.
     #[tactic(auto, using(crate::proofs::Listing::none_below, crate::proofs::Listing::one_more_below))]
     fn turnover(&self, heap: Global) -> Option<Answers<Patterned>>
-        ensures { IfSome result (λ answers. answers.items ≡ round self.now.workers (number_of self.now.unready) (number_of self.now.turnover)) }
+        ensures { IfSome result (λ answers. answers.items ≡
+            round self.now.workers (number_of self.now.unready) (number_of self.now.turnover)) }
     {
         let mut answers = Vec::new(heap);
         let Some(every) = self.turnover else {
@@ -170,6 +173,7 @@ fn feed_of<'a, S: Copy>(
 }
 
 // A request to the worker that the latest poll named, and the completion of the ticket that was given `late` calls before. Answers that worker's serial and the response, added up, or none where the call is refused.
+#[tactic(auto, unfolding(crate::specs::Cycles::request))]
 fn request<D, R>(
     balance: &mut Balance<D, R>,
     cache: &mut ReadyCache<'_, u32, D::Service>,
@@ -182,7 +186,10 @@ where
     D: Discover<Key = u32, Error = u32>,
     R: Rng,
     D::Service: Endpoint<Request = u32, Response = u64>,
-    ensures { Leaves (request (kinds numbers D.Service.means D.Service.Metric.order D.feeds R.source) late at serial (state balance.old cache.old docket.old)) result (state balance.new cache.new docket.new) }
+    ensures { Leaves
+        (request (kinds numbers D.Service.means D.Service.Metric.order D.feeds R.source)
+        late at serial (state balance.old cache.old docket.old))
+        result (state balance.new cache.new docket.new) }
 {
     let Ok((ticket, response)) = balance.call(cache, docket, 0, at) else {
         return None;
@@ -191,8 +198,34 @@ where
     Some(serial.wrapping_add(response))
 }
 
+// Polls, and answers the serial of the worker that the poll names; none where it names nobody or a fault ends it.
+fn named_serial<D, R>(
+    balance: &mut Balance<D, R>,
+    cache: &mut ReadyCache<'_, u32, D::Service>,
+    at: u64,
+) -> Option<u64>
+where
+    D: Discover<Key = u32, Error = u32>,
+    R: Rng,
+    D::Service: Endpoint<Request = u32, Response = u64>,
+    ensures answer { result ≡ named_serial
+        (poll (kinds numbers D.Service.means D.Service.Metric.order D.feeds R.source)
+        at balance.old cache.old).answer }
+    ensures balancer { balance.new ≡
+        (poll (kinds numbers D.Service.means D.Service.Metric.order D.feeds R.source)
+        at balance.old cache.old).balancer }
+    ensures cache { cache.new ≡
+        (poll (kinds numbers D.Service.means D.Service.Metric.order D.feeds R.source)
+        at balance.old cache.old).cache }
+{
+    match balance.poll_ready(cache, at).ok()?.worker {
+        Poll::Ready(serial) => Some(serial),
+        Poll::Pending => None,
+    }
+}
+
 // One cycle: a poll, and a request to the worker that it names; none where it names nobody. (Not a `Router` of the crate `runs`: what is timed is the three calls alone.)
-#[tactic(auto, using(crate::proofs::Cycling::named))]
+#[tactic(auto, unfolding(crate::specs::Cycles::cycle))]
 fn cycle<D, R>(
     balance: &mut Balance<D, R>,
     cache: &mut ReadyCache<'_, u32, D::Service>,
@@ -204,19 +237,17 @@ where
     D: Discover<Key = u32, Error = u32>,
     R: Rng,
     D::Service: Endpoint<Request = u32, Response = u64>,
-    ensures { Leaves (cycle (kinds numbers D.Service.means D.Service.Metric.order D.feeds R.source) late at (state balance.old cache.old docket.old)) result (state balance.new cache.new docket.new) }
+    ensures { Leaves
+        (cycle (kinds numbers D.Service.means D.Service.Metric.order D.feeds R.source)
+        late at (state balance.old cache.old docket.old))
+        result (state balance.new cache.new docket.new) }
 {
-    let Ok(polled) = balance.poll_ready(cache, at) else {
-        return None;
-    };
-    match polled.worker {
-        Poll::Ready(serial) => request(balance, cache, docket, late, serial, at),
-        Poll::Pending => None,
-    }
+    let serial = named_serial(balance, cache, at)?;
+    request(balance, cache, docket, late, serial, at)
 }
 
 // So many cycles, at the instants 0, 1000, 2000 and so on; answers the sum of what they answer, modulo 2^64.
-#[tactic(auto, using(crate::proofs::Cycling::none_yet))]
+#[tactic(auto, using(crate::proofs::Cycling::none_yet, crate::proofs::Cycling::one_more))]
 fn all_cycles<D, R>(
     balance: &mut Balance<D, R>,
     cache: &mut ReadyCache<'_, u32, D::Service>,
@@ -228,7 +259,10 @@ where
     D: Discover<Key = u32, Error = u32>,
     R: Rng,
     D::Service: Endpoint<Request = u32, Response = u64>,
-    ensures { Leaves (cycles (kinds numbers D.Service.means D.Service.Metric.order D.feeds R.source) late count (state balance.old cache.old docket.old)) result (state balance.new cache.new docket.new) }
+    ensures { Leaves
+        (cycles (kinds numbers D.Service.means D.Service.Metric.order D.feeds R.source)
+        late count (state balance.old cache.old docket.old))
+        result (state balance.new cache.new docket.new) }
 {
     let mut sum: u64 = 0;
     for i in 0..count {
@@ -244,7 +278,9 @@ fn run<D>(heap: Global, feed: D, blank: D::Service, shape: Shape) -> Option<u64>
 where
     D: Discover<Key = u32, Error = u32> + Drop,
     D::Service: Endpoint<Request = u32, Response = u64>,
-    ensures { IfSome result (λ sum. sum ≡ (cycles (kinds numbers D.Service.means D.Service.Metric.order D.feeds hasher_words) shape.out shape.cycles (newly_made (making shape.workers shape.out feed))).answer) }
+    ensures { IfSome result (λ sum. sum ≡
+        (cycles (kinds numbers D.Service.means D.Service.Metric.order D.feeds hasher_words)
+        shape.out shape.cycles (newly_made (making shape.workers shape.out feed))).answer) }
 {
     let workers = shape.workers.saturating_mul(2).saturating_add(2) as usize;
     let requests = shape.out.saturating_add(1) as usize;

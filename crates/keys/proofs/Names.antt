@@ -175,7 +175,7 @@ in_bits : (k : ℕ) → 256 ^ k ≡ 2 ^ (8 * k)
 in_bits zero = refl
 in_bits (suc k) = simp (pow-suc, mul-suc, pow-add, in_bits k)
 
-pub digits_used : (n : ℕ) → n < 2 ^ 64 → drop (leading_zeros w64 n / 8) (to_be_bytes w64 n) ≡ digits_of 256 n
+digits_used : (n : ℕ) → n < 2 ^ 64 → drop (leading_zeros w64 n / 8) (to_be_bytes w64 n) ≡ digits_of 256 n
 digits_used n small =
     let t = leading_length 64 n small in
     let i : ℕ = leading_zeros w64 n / 8 in
@@ -185,6 +185,10 @@ digits_used n small =
     let above = pow-le-pow_right {n = 2} (lit< tt) {i = 8 * k} {j = t.0 + 7} (omega (arith, t.1)) in
     ap (λ (l : ℕ). drop i (bytes_high_first l n)) all ∙ bytes_drop i k n
     ∙ digits_of_bytes k n (omega (arith, in_bits k, below, t.2)) (omega (arith, in_bits k, above, pow-add 2 t.0 7, t.3))
+
+-- what is left of a number's bytes after its leading zeros
+pub digits_left : (n i : ℕ) → i ≡ leading_zeros w64 n / 8 → n < 2 ^ 64 → drop i (to_be_bytes w64 n) ≡ digits_of 256 n
+digits_left n i is small = ap (λ (j : ℕ). drop j (to_be_bytes w64 n)) is ∙ digits_used n small
 
 pub letter_more : {W : Type 0} (took : W → List ℕ → W → Type 0) (f g h : Formatter W) (r : Result (Unit {0}) Error) (bs : List ℕ) (b c : ℕ) → r ≡ Ok tt → c ≡ b → WritesOnOk took f (Ok tt) (encodes bs) g → WritesOnOk took g r (encode c) h → WritesOnOk took f (Ok tt) (encodes (bs ++ (b ∷ []))) h
 letter_more took f g h r bs b c ok e p q =

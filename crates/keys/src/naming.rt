@@ -1,6 +1,8 @@
 // How a name is made, compared and printed.
-ghost use Rattle.std.specs.Prelude.{◌≡◌, ◌+◌, ◌*◌, ◌^◌, ◌<◌, IfOk, IfErr, Some};
+ghost use Rattle.std.specs.Prelude.{◌≡◌, ◌+◌, ◌*◌, ◌^◌, ◌<◌, drop, IfOk, IfErr, Some};
 ghost use Rattle.std.specs.Fmt.{WritesOnOk};
+ghost use Rattle.std.specs.Int.{w64, to_be_bytes};
+ghost use Rattle.std.specs.Int.Digits.{digits_of};
 ghost use Rattle.service.specs.Numbers.{invalid_number};
 ghost use Rattle.keys.specs.Names.{names, letters_or_digits, is_name, new_name, text_of, shown, SameWithoutCase};
 
@@ -65,11 +67,19 @@ impl Key for Name {
     }
 }
 
+// How many of a number's eight bytes are 0 before its first digit in base 256.
+#[tactic(auto, using(crate::proofs::Names::digits_left))]
+fn leading_zero_bytes(letters: u64) -> usize
+    ensures { drop result (to_be_bytes w64 letters) ≡ digits_of 256 letters }
+{
+    letters.leading_zeros() as usize / 8
+}
+
 // Writes the bytes that are packed in a number, from the first that is not 0 on.
 fn write_letters<W: fmt::Write>(letters: u64, f: &mut fmt::Formatter<W>) -> fmt::Result
     ensures { WritesOnOk W.Write.write_str_gives f.old result (shown letters) f.new }
 {
-    let zeros = letters.leading_zeros() as usize / 8;
+    let zeros = leading_zero_bytes(letters);
     for byte in letters.to_be_bytes().into_iter().skip(zeros) {
         f.write_char(char::from(byte))?;
     }

@@ -106,7 +106,8 @@ impl<K: Copy, S: Copy> Memory<K, S> {
 
     /// The three slices, to be lent to a router, or to a cache and a docket.
     ///
-    /// They hold what the vectors hold, and go back when the last of them is no longer used.
+    /// They hold what the vectors hold, and go back when the last of them is no longer used. What was written through
+    /// them then stands in the vectors: no clause says so, since one follows a single lent part, or two of one slice.
     pub fn as_mut_slices(&mut self) -> Slices<'_, K, S>
         ensures ready { result.ready.now ≡ self.old.ready.items }
         ensures pending { result.pending.now ≡ self.old.pending.items }

@@ -35,8 +35,8 @@ module _ {K S Q A E W : Type 0} (ends : Endpoints S Q A E W) (now : ℕ) (xs : L
   there : e ≡ get_or xs p.read e
   there = get_or_default xs p.read d e long
 
-  abbrev answers : Readiness E → Entry K S → Result (Option (Entry K S)) (Failure K E)
-  answers a f = by_readiness a (Ok (Some f)) (Ok None) (λ x. Err (record { key = e.key; error = x }))
+  abbrev answers : Readiness E → Entry K S → Option (Result (Entry K S) (Failure K E))
+  answers a f = by_readiness a (Some (Ok f)) None (λ x. Some (Err (record { key = e.key; error = x })))
 
   abbrev leaves : Readiness E → Entry K S → List (Entry K S)
   leaves a f = by_readiness a (set xs p.read f) (set (set xs p.read f) p.write f) (λ _. set xs p.read f)
@@ -44,7 +44,7 @@ module _ {K S Q A E W : Type 0} (ends : Endpoints S Q A E W) (now : ℕ) (xs : L
   abbrev moves : Readiness E → Places
   moves a = by_readiness a p (kept p) (λ _. over p)
 
-  pub turned_over : e.cancelled ≡ true → Turned ends now xs p (Ok None) xs (over p)
+  pub turned_over : e.cancelled ≡ true → Turned ends now xs p None xs (over p)
   turned_over h = record { who = e; there = there; told = sym (cond-true e.cancelled _ _ h); memory = sym (cond-true e.cancelled _ _ h); places = sym (cond-true e.cancelled _ _ h) }
 
   module _ (live : e.cancelled ≡ false) where
@@ -54,7 +54,7 @@ module _ {K S Q A E W : Type 0} (ends : Endpoints S Q A E W) (now : ℕ) (xs : L
     abbrev asked : Entry K S
     asked = holding e (ends.polled e.endpoint now).after
 
-    turned : (r : Result (Option (Entry K S)) (Failure K E)) (ys : List (Entry K S)) (q : Places) → answers answer asked ≡ r → leaves answer asked ≡ ys → moves answer ≡ q → Turned ends now xs p r ys q
+    turned : (r : Option (Result (Entry K S) (Failure K E))) (ys : List (Entry K S)) (q : Places) → answers answer asked ≡ r → leaves answer asked ≡ ys → moves answer ≡ q → Turned ends now xs p r ys q
     turned r ys q er ey eq =
         record {
           who = e;
@@ -81,30 +81,27 @@ module _ {K S Q A E W : Type 0} (ends : Endpoints S Q A E W) (now : ℕ) (xs : L
       read_as : {f : Entry K S} → f ≡ get_or ys p.read f → f ≡ asked
       read_as {f} r = r ∙ ap (λ z. get_or z p.read f) left_as ∙ get_or-set_same xs p.read asked f long
 
-      pub turned_ready : {f : Entry K S} → f ≡ get_or ys p.read f → Ok true ≡ said → Turned ends now xs p (Ok (Some f)) ys p
+      pub turned_ready : {f : Entry K S} → f ≡ get_or ys p.read f → Ok true ≡ said → Turned ends now xs p (Some (Ok f)) ys p
       turned_ready {f} r h =
           let k = h ∙ heard in
-          turned (Ok (Some f)) ys p (pick_ready e answer _ _ _ k ∙ ap (λ z. Ok (Some z)) (sym (read_as r))) (pick_ready e answer _ _ _ k ∙ sym left_as) (pick_ready e answer _ _ _ k)
+          turned (Some (Ok f)) ys p (pick_ready e answer _ _ _ k ∙ ap (λ z. Some (Ok z)) (sym (read_as r))) (pick_ready e answer _ _ _ k ∙ sym left_as) (pick_ready e answer _ _ _ k)
 
       -- what was read is moved down
-      pub turned_pending : {zs : List (Entry K S)} → ((x : Entry K S) → x ≡ get_or ys p.read x → zs ≡ set ys p.write x) → Ok false ≡ said → Turned ends now xs p (Ok None) zs (kept p)
+      pub turned_pending : {zs : List (Entry K S)} → ((x : Entry K S) → x ≡ get_or ys p.read x → zs ≡ set ys p.write x) → Ok false ≡ said → Turned ends now xs p None zs (kept p)
       turned_pending {zs} moved h =
           let k = h ∙ heard in
           let read : asked ≡ get_or ys p.read asked = sym (ap (λ z. get_or z p.read asked) left_as ∙ get_or-set_same xs p.read asked asked long) in
-          turned (Ok None) zs (kept p) (pick_pending e answer _ _ _ k) (pick_pending e answer _ _ _ k ∙ ap (λ z. set z p.write asked) (sym left_as) ∙ sym (moved asked read)) (pick_pending e answer _ _ _ k)
+          turned None zs (kept p) (pick_pending e answer _ _ _ k) (pick_pending e answer _ _ _ k ∙ ap (λ z. set z p.write asked) (sym left_as) ∙ sym (moved asked read)) (pick_pending e answer _ _ _ k)
 
-      pub turned_failed : {x : Failure K E} → Err x ≡ said → Turned ends now xs p (Err x) ys (over p)
+      pub turned_failed : {x : Failure K E} → Err x ≡ said → Turned ends now xs p (Some (Err x)) ys (over p)
       turned_failed {x} h =
           let k = h ∙ heard in
-          turned (Err x) ys (over p) (failed_as answer k) (pick_failed e answer _ _ _ x k ∙ sym left_as) (pick_failed e answer _ _ _ x k)
+          turned (Some (Err x)) ys (over p) (failed_as answer k) (pick_failed e answer _ _ _ x k ∙ sym left_as) (pick_failed e answer _ _ _ x k)
         where
-          failed_as : (a : Readiness E) → Err x ≡ told e a → answers a asked ≡ Err x
+          failed_as : (a : Readiness E) → Err x ≡ told e a → answers a asked ≡ Some (Err x)
           failed_as Ready h = cc
           failed_as Pending h = cc
-          failed_as (Failed y) h = let s : ◌≡◌ {A = Failure K E} (record { key = e.key; error = y }) x = cc in ap Err s
-
-pub turned_as : {K S Q A E W : Type 0} (ends : Endpoints S Q A E W) (now : ℕ) {xs ys : List (Entry K S)} {p q : Places} {o o' : Option (Entry K S)} → o ≡ o' → Turned ends now xs p (Ok o) ys q → Turned ends now xs p (Ok o') ys q
-turned_as ends now {xs} {ys} {p} {q} h d = subst (λ z. Turned ends now xs p (Ok z) ys q) h d
+          failed_as (Failed y) h = let s : ◌≡◌ {A = Failure K E} (record { key = e.key; error = y }) x = cc in ap (λ z. Some (Err z)) s
 
 -- how a pass ends, apart from its questions
 pub record Ended (K S E : Type 0) : Type 0 where
@@ -129,19 +126,19 @@ fault_none (Ok u) e h n = cc
 fault_none (Err x) e h n = cc
 
 -- where a turn leaves the places
-abbrev pub Placed : {K S E : Type 0} → Places → Places → Result (Option (Entry K S)) (Failure K E) → Type 0
-Placed p q (Ok None) = (q.ready ≡ p.ready) × (q.read ≡ p.read + 1) × (q.write ≤ p.write + 1)
-Placed p q (Ok (Some e)) = q ≡ p
-Placed p q (Err f) = q ≡ over p
+abbrev pub Placed : {K S E : Type 0} → Places → Places → Option (Result (Entry K S) (Failure K E)) → Type 0
+Placed p q None = (q.ready ≡ p.ready) × (q.read ≡ p.read + 1) × (q.write ≤ p.write + 1)
+Placed p q (Some (Ok e)) = q ≡ p
+Placed p q (Some (Err f)) = q ≡ over p
 
 module _ {K S Q A E W : Type 0} (ends : Endpoints S Q A E W) (now : ℕ) where
-  placed_by : (p : Places) (e f : Entry K S) (b : Bool) (a : Readiness E) → Placed p (cond b (over p) (by_readiness a p (kept p) (λ _. over p))) (cond b (Ok None) (by_readiness a (Ok (Some f)) (Ok None) (λ x. Err (record { key = e.key; error = x }))))
+  placed_by : (p : Places) (e f : Entry K S) (b : Bool) (a : Readiness E) → Placed p (cond b (over p) (by_readiness a p (kept p) (λ _. over p))) (cond b None (by_readiness a (Some (Ok f)) None (λ x. Some (Err (record { key = e.key; error = x })))))
   placed_by p e f true a = (refl, refl, omega arith)
   placed_by p e f false Ready = refl
   placed_by p e f false Pending = (refl, refl, omega arith)
   placed_by p e f false (Failed x) = refl
 
-  pub placed : (xs ys : List (Entry K S)) (p q : Places) (r : Result (Option (Entry K S)) (Failure K E)) → Turned ends now xs p r ys q → Placed p q r
+  pub placed : (xs ys : List (Entry K S)) (p q : Places) (r : Option (Result (Entry K S) (Failure K E))) → Turned ends now xs p r ys q → Placed p q r
   placed xs ys p q r d = let e = d.who in rw (d.told, d.places) (placed_by p e (holding e (ends.polled e.endpoint now).after) e.cancelled (ends.polled e.endpoint now).answer)
 
 module _ {K S Q A E W : Type 0} (keys : Sameness K) (ends : Endpoints S Q A E W) (now : ℕ) where
@@ -159,13 +156,13 @@ module _ {K S Q A E W : Type 0} (keys : Sameness K) (ends : Endpoints S Q A E W)
   comes_to xs ys p (Err x) = stopped xs ys p x
 
   -- what is left of a pass after a turn
-  abbrev pub goes_on : List (Entry K S) → List (Entry K S) → Places → Result (Option (Entry K S)) (Failure K E) → Ended K S E
-  goes_on xs ys q (Ok None) = left_of xs ys q
-  goes_on xs ys q (Ok (Some e)) =
+  abbrev pub goes_on : List (Entry K S) → List (Entry K S) → Places → Option (Result (Entry K S) (Failure K E)) → Ended K S E
+  goes_on xs ys q None = left_of xs ys q
+  goes_on xs ys q (Some (Ok e)) =
       cond (has_place keys (length xs) (take q.ready xs) e.key)
       (ended (pass keys ends now (length xs) (promote keys e (take q.ready xs)) (take q.write ys) (drop (q.read + 1) ys)))
       (stopped xs ys q (error.NoPlace (record { key = e.key })))
-  goes_on xs ys q (Err f) = stopped xs ys q (error.Failed f)
+  goes_on xs ys q (Some (Err f)) = stopped xs ys q (error.Failed f)
 
   module _ (xs ys : List (Entry K S)) (p : Places) (behind : p.write ≤ p.read) (more : p.read < length ys) (e : Entry K S) where
     abbrev rest : List (Entry K S)
@@ -200,7 +197,7 @@ module _ {K S Q A E W : Type 0} (keys : Sameness K) (ends : Endpoints S Q A E W)
         (record { ready = take p.ready xs; kept = take p.write ys; rest = f ∷ rest; fault = Some (error.NoPlace (record { key = e.key })); asked = [] }))
         (pass keys ends now (length xs) (take p.ready xs) (take p.write ys ++ (f ∷ [])) rest)
         (λ x. record { ready = take p.ready xs; kept = take p.write ys; rest = rest; fault = Some (error.Failed (record { key = e.key; error = x })); asked = [] }))))
-        ≡ goes_on xs (cond b ys (by_readiness a (set ys p.read f) (set (set ys p.read f) p.write f) (λ _. set ys p.read f))) (cond b (over p) (by_readiness a p (kept p) (λ _. over p))) (cond b (Ok None) (by_readiness a (Ok (Some f)) (Ok None) (λ x. Err (record { key = e.key; error = x }))))
+        ≡ goes_on xs (cond b ys (by_readiness a (set ys p.read f) (set (set ys p.read f) p.write f) (λ _. set ys p.read f))) (cond b (over p) (by_readiness a p (kept p) (λ _. over p))) (cond b None (by_readiness a (Some (Ok f)) None (λ x. Some (Err (record { key = e.key; error = x })))))
     by_turn f question true a k = refl
     by_turn f question false Ready k =
         by_place f (has_place keys (length xs) (take p.ready xs) e.key)
@@ -214,7 +211,7 @@ module _ {K S Q A E W : Type 0} (keys : Sameness K) (ends : Endpoints S Q A E W)
         ap (λ z. record { ready = take p.ready xs; kept = z; rest = rest; fault = Some (error.Failed (record { key = e.key; error = x })) }) (front_kept f)
         ∙ ap (λ z. record { ready = take p.ready xs; kept = take p.write (set ys p.read f); rest = z; fault = Some (error.Failed (record { key = e.key; error = x })) }) (rest_kept f)
 
-  pub turn_left : (xs ys zs : List (Entry K S)) (p q : Places) (r : Result (Option (Entry K S)) (Failure K E)) → p.write ≤ p.read → p.read < length ys → Turned ends now ys p r zs q → left_of xs ys p ≡ goes_on xs zs q r
+  pub turn_left : (xs ys zs : List (Entry K S)) (p q : Places) (r : Option (Result (Entry K S) (Failure K E))) → p.write ≤ p.read → p.read < length ys → Turned ends now ys p r zs q → left_of xs ys p ≡ goes_on xs zs q r
   turn_left xs ys zs p q r behind more d =
       let e = d.who in
       let left = ends.polled e.endpoint now in
@@ -248,16 +245,18 @@ module _ {K S Q A E W : Type 0} (keys : Sameness K) (ends : Endpoints S Q A E W)
   turns_left end p (Err x) = 0
 
   -- the places that a turn left, of an entry that is ready
-  same_places : {xs ys : List (Entry K S)} {p q : Places} {e : Entry K S} → Turned ends now xs p (Ok (Some e)) ys q → q ≡ p
-  same_places {xs} {ys} {p} {q} {e} d = placed ends now xs ys p q (Ok (Some e)) d
+  same_places : {xs ys : List (Entry K S)} {p q : Places} {e : Entry K S} → Turned ends now xs p (Some (Ok e)) ys q → q ≡ p
+  same_places {xs} {ys} {p} {q} {e} d = placed ends now xs ys p q (Some (Ok e)) d
 
-  -- after a turn that was taken up, fewer are left
-  pub nearer : (end : ℕ) (xs ys zs ws : List (Entry K S)) (p q n : Places) (t : Result (Option (Entry K S)) (Failure K E)) (r : Result (Unit {0}) (PendingError K E)) → p.read < end → Turned ends now ys p t zs q → Admitted keys t xs q r ws n → turns_left end n r < (end - p.read) + 1
-  nearer end xs ys zs ws p q n (Ok None) (Ok u) more d t =
-      let at = placed ends now ys zs p q (Ok None) d in
-      let b : n.read ≡ p.read + 1 = ap (λ z. z.read) t.2 ∙ at.1 in
-      omega arith
-  nearer end xs ys zs ws p q n (Ok (Some x)) (Ok u) more d t =
+  -- after a turn with nothing to take up, fewer are left
+  pub nearer_over : (end : ℕ) (ys zs : List (Entry K S)) (p q : Places) → p.read < end → Turned ends now ys p None zs q → (end - q.read) + 1 < (end - p.read) + 1
+  nearer_over end ys zs p q more d =
+      let at = placed ends now ys zs p q None d in
+      omega (arith, at.1)
+
+  -- and after one whose answer was taken up
+  pub nearer : (end : ℕ) (xs ys zs ws : List (Entry K S)) (p q n : Places) (t : Result (Entry K S) (Failure K E)) (r : Result (Unit {0}) (PendingError K E)) → p.read < end → Turned ends now ys p (Some t) zs q → Admitted keys t xs q r ws n → turns_left end n r < (end - p.read) + 1
+  nearer end xs ys zs ws p q n (Ok x) (Ok u) more d t =
       let b : q.read ≡ p.read = ap (λ z. z.read) (same_places d) in
       omega (arith, t.1)
   nearer end xs ys zs ws p q n (Err f) (Ok u) more d t = cc (t.0)
@@ -275,36 +274,33 @@ module _ {K S Q A E W : Type 0} (keys : Sameness K) (ends : Endpoints S Q A E W)
     }
 
     module _ (same : left_of xs' ys' p ≡ left_of xs ys p₀) (more : p.read < length ys) {zs : List (Entry K S)} {q : Places} (as_long : length zs ≡ length ys') where
-      goes : (r : Result (Option (Entry K S)) (Failure K E)) → Turned ends now ys' p r zs q → goes_on xs' zs q r ≡ left_of xs ys p₀
+      goes : (r : Option (Result (Entry K S) (Failure K E))) → Turned ends now ys' p r zs q → goes_on xs' zs q r ≡ left_of xs ys p₀
       goes r d = sym (turn_left xs' ys' zs p q r now_at.behind (omega (arith, now_at.pending_long)) d) ∙ same
 
-      module _ {ws : List (Entry K S)} {n : Places} (wide : length ws ≡ length xs') where
-        -- the next one left or stayed
-        came_on : Turned ends now ys' p (Ok None) zs q → ws ≡ xs' → n ≡ q → Came xs ys ws zs p₀ n (Ok tt)
-        came_on d w h =
-            let at = placed ends now ys' zs p q (Ok None) d in
-            let a : n.ready ≡ p.ready = ap (λ z. z.ready) h ∙ at.0 in
-            let b : n.read ≡ p.read + 1 = ap (λ z. z.read) h ∙ at.1 in
-            let c : n.write ≡ q.write = ap (λ z. z.write) h in
-            record {
-              went = went_on wide as_long (omega (arith, now_at.behind, at.2)) (omega arith) (omega (arith, now_at.fits)) (omega (arith, at.2));
-              same = ap₂ (λ x z. left_of x zs z) w h ∙ goes (Ok None) d;
-            }
+      -- the next one left or stayed
+      pub came_over : Turned ends now ys' p None zs q → Came xs ys xs' zs p₀ q (Ok tt)
+      came_over d =
+          let at = placed ends now ys' zs p q None d in
+          record {
+            went = went_on refl as_long (omega (arith, now_at.behind, at.1, at.2)) (omega (arith, at.1)) (omega (arith, at.0, now_at.fits)) (omega (arith, at.0, at.1, at.2));
+            same = goes None d;
+          }
 
+      module _ {ws : List (Entry K S)} {n : Places} (wide : length ws ≡ length xs') where
         -- it failed
-        came_failed : {f : Failure K E} → Turned ends now ys' p (Err f) zs q → ws ≡ xs' → n ≡ q → Came xs ys ws zs p₀ n (Err (error.Failed f))
+        came_failed : {f : Failure K E} → Turned ends now ys' p (Some (Err f)) zs q → ws ≡ xs' → n ≡ q → Came xs ys ws zs p₀ n (Err (error.Failed f))
         came_failed {f} d w h =
-            let at : q ≡ over p = placed ends now ys' zs p q (Err f) d in
+            let at : q ≡ over p = placed ends now ys' zs p q (Some (Err f)) d in
             let a : n.ready ≡ p.ready = ap (λ z. z.ready) (h ∙ at) in
             let b : n.read ≡ p.read + 1 = ap (λ z. z.read) (h ∙ at) in
             let c : n.write ≡ p.write = ap (λ z. z.write) (h ∙ at) in
             record {
               went = went_on wide as_long (omega (arith, now_at.behind)) (omega arith) (omega (arith, now_at.fits)) (omega arith);
-              same = ap₂ (λ x z. stopped x zs z (error.Failed f)) w h ∙ goes (Err f) d;
+              same = ap₂ (λ x z. stopped x zs z (error.Failed f)) w h ∙ goes (Some (Err f)) d;
             }
 
         -- it joined the ready ones
-        came_ready : {e : Entry K S} → Turned ends now ys' p (Ok (Some e)) zs q → Promoted keys e xs' q.ready ws n.ready → n.read ≡ q.read + 1 → n.write ≡ q.write → Came xs ys ws zs p₀ n (Ok tt)
+        came_ready : {e : Entry K S} → Turned ends now ys' p (Some (Ok e)) zs q → Promoted keys e xs' q.ready ws n.ready → n.read ≡ q.read + 1 → n.write ≡ q.write → Came xs ys ws zs p₀ n (Ok tt)
         came_ready {e} d t read write =
             let a : q.ready ≡ p.ready = ap (λ z. z.ready) (same_places d) in
             let b : q.read ≡ p.read = ap (λ z. z.read) (same_places d) in
@@ -317,11 +313,11 @@ module _ {K S Q A E W : Type 0} (keys : Sameness K) (ends : Endpoints S Q A E W)
                   ∙ ap (λ m. ended (pass keys ends now m (take n.ready ws) (take q.write zs) (drop (q.read + 1) zs))) wide
                   ∙ ap (λ z. ended (pass keys ends now (length xs') z (take q.write zs) (drop (q.read + 1) zs))) t.list
                   ∙ sym (cond-true (has_place keys (length xs') (take q.ready xs') e.key) _ _ yes_place)
-                  ∙ goes (Ok (Some e)) d;
+                  ∙ goes (Some (Ok e)) d;
             }
 
         -- it had no place among them
-        came_refused : {e : Entry K S} → Turned ends now ys' p (Ok (Some e)) zs q → Refused keys e xs' q.ready ws → n ≡ q → Came xs ys ws zs p₀ n (Err (error.NoPlace (record { key = e.key })))
+        came_refused : {e : Entry K S} → Turned ends now ys' p (Some (Ok e)) zs q → Refused keys e xs' q.ready ws → n ≡ q → Came xs ys ws zs p₀ n (Err (error.NoPlace (record { key = e.key })))
         came_refused {e} d t h =
             let a : n.ready ≡ p.ready = ap (λ z. z.ready) (h ∙ same_places d) in
             let b : n.read ≡ p.read = ap (λ z. z.read) (h ∙ same_places d) in
@@ -331,12 +327,11 @@ module _ {K S Q A E W : Type 0} (keys : Sameness K) (ends : Endpoints S Q A E W)
               same =
                   ap₂ (λ x z. stopped x zs z (error.NoPlace (record { key = e.key }))) t.same h
                   ∙ sym (cond-false (has_place keys (length xs') (take q.ready xs') e.key) _ _ t.place)
-                  ∙ goes (Ok (Some e)) d;
+                  ∙ goes (Some (Ok e)) d;
             }
 
         -- one turn of the walk: what a turn told was taken up
-        pub came : (t : Result (Option (Entry K S)) (Failure K E)) (r : Result (Unit {0}) (PendingError K E)) → Turned ends now ys' p t zs q → Admitted keys t xs' q r ws n → Came xs ys ws zs p₀ n r
-        came (Ok None) r d t = came_as (sym t.0) (came_on d t.1 t.2)
+        pub came : (t : Result (Entry K S) (Failure K E)) (r : Result (Unit {0}) (PendingError K E)) → Turned ends now ys' p (Some t) zs q → Admitted keys t xs' q r ws n → Came xs ys ws zs p₀ n r
         came (Err f) r d t = came_as (sym t.0) (came_failed d t.1 t.2)
-        came (Ok (Some x)) (Ok u) d t = came_ready d t.0 t.1 t.2
-        came (Ok (Some x)) (Err y) d t = came_as (ap Err (sym t.1)) (came_refused d t.0 t.2)
+        came (Ok x) (Ok u) d t = came_ready d t.0 t.1 t.2
+        came (Ok x) (Err y) d t = came_as (ap Err (sym t.1)) (came_refused d t.0 t.2)

@@ -17,13 +17,13 @@ over p = record { ready = p.ready; read = p.read + 1; write = p.write }
 abbrev pub kept : Places → Places
 kept p = record { ready = p.ready; read = p.read + 1; write = p.write + 1 }
 
--- a pass came to the entry `who` of xs: what it told, and the memory and the places that it left
-pub record Turned {K S Q A E W : Type 0} (ends : Endpoints S Q A E W) (now : ℕ) (xs : List (Entry K S)) (p : Places) (r : Result (Option (Entry K S)) (Failed K E)) (ys : List (Entry K S)) (q : Places) : Type 0 where
+-- a pass came to the entry `who` of xs: that it is ready, or how it failed, if it did either, and the memory and the places that it left
+pub record Turned {K S Q A E W : Type 0} (ends : Endpoints S Q A E W) (now : ℕ) (xs : List (Entry K S)) (p : Places) (r : Option (Result (Entry K S) (Failed K E))) (ys : List (Entry K S)) (q : Places) : Type 0 where
   pub who : Entry K S
   pub there : who ≡ slice_index_or xs p.read who
   pub told :
       let left = ends.polled who.endpoint now in
-      r ≡ cond who.cancelled (Ok None) (by_readiness left.answer (Ok (Some (holding who left.after))) (Ok None) (λ x. Err (record { key = who.key; error = x })))
+      r ≡ cond who.cancelled None (by_readiness left.answer (Some (Ok (holding who left.after))) None (λ x. Some (Err (record { key = who.key; error = x }))))
   pub memory :
       let left = ends.polled who.endpoint now in
       let asked = set xs p.read (holding who left.after) in
@@ -45,10 +45,9 @@ module _ {K S : Type 0} (keys : Sameness K) where
     pub place : has_place keys (length xs) (take len xs) e.key ≡ false
     pub same : ys ≡ xs
 
-  -- what a turn answered was taken up, in the memory xs: nothing to do, an entry that is ready, or a worker that failed
-  abbrev pub Admitted : {E : Type 0} → Result (Option (Entry K S)) (Failed K E) → List (Entry K S) → Places → Result (Unit {0}) (PendingError K E) → List (Entry K S) → Places → Type 0
-  Admitted (Ok None) xs p r ys q = (r ≡ Ok tt) × (ys ≡ xs) × (q ≡ p)
-  Admitted (Ok (Some e)) xs p r ys q =
+  -- what a turn answered was taken up, in the memory xs: an entry that is ready, or a worker that failed
+  abbrev pub Admitted : {E : Type 0} → Result (Entry K S) (Failed K E) → List (Entry K S) → Places → Result (Unit {0}) (PendingError K E) → List (Entry K S) → Places → Type 0
+  Admitted (Ok e) xs p r ys q =
       MatchResult r
       (λ _. Promoted e xs p.ready ys q.ready × (q.read ≡ p.read + 1) × (q.write ≡ p.write))
       (λ x. Refused e xs p.ready ys × (x ≡ error.NoPlace (record { key = e.key })) × (q ≡ p))

@@ -21,32 +21,32 @@ fn move_down<T: Copy>(items: &mut [T], from: usize, to: usize)
     }
 }
 
-// Comes to the next entry, and answers it if it is ready; one that is pending moves to the front, and any other is passed over.
+// Comes to the next entry, and answers it if it is ready, or how it failed. One that is pending moves to the front, and a cancelled one is passed over: neither is in the answer. (The `Option` is outside, so that nothing is copied for one that stays.)
 fn turn<K: Copy, S: Endpoint>(
     items: &mut [Entry<K, S>],
     places: &mut Places,
     at: u64,
-) -> Result<Option<Entry<K, S>>, Failed<K, S::Error>>
+) -> Option<Result<Entry<K, S>, Failed<K, S::Error>>>
     requires { (places.old.write ≤ places.old.read) × (places.old.read < length items.old) }
     ensures { Turned S.means at items.old places.old result items.new places.new }
 {
     let read = places.read;
     if items[read].cancelled {
         places.read += 1;
-        return Ok(None);
+        return None;
     }
     match entries::ask(items, read, at) {
         // returned here: as the value of the `match` the entry is copied once more
-        Ok(true) => return Ok(Some(items[read])),
+        Ok(true) => return Some(Ok(items[read])),
         Ok(false) => {
             move_down(items, read, places.write);
             places.read += 1;
             places.write += 1;
-            Ok(None)
+            None
         }
         Err(failed) => {
             places.read += 1;
-            Err(failed)
+            Some(Err(failed))
         }
     }
 }
@@ -83,16 +83,13 @@ fn promote<K: Key, S: Endpoint>(
 fn admit<K: Key, S: Endpoint>(
     items: &mut [Entry<K, S>],
     places: &mut Places,
-    answer: Result<Option<Entry<K, S>>, Failed<K, S::Error>>,
+    answer: Result<Entry<K, S>, Failed<K, S::Error>>,
 ) -> Result<(), PendingError<K, S::Error>>
     requires ready_within { places.old.ready ≤ length items.old }
     requires next_fits { places.old.read < usize.MAX }
     ensures { Admitted K.sameness answer items.old places.old result items.new places.new }
 {
-    let Some(entry) = answer? else {
-        return Ok(());
-    };
-    places.ready = promote(items, places.ready, entry)?;
+    places.ready = promote(items, places.ready, answer?)?;
     places.read += 1;
     Ok(())
 }
@@ -115,8 +112,9 @@ impl<'a, K: Key, S: Endpoint> ReadyCache<'a, K, S> {
         let pending = &mut self.pending[..end];
         let mut outcome: Result<(), PendingError<K, S::Error>> = Ok(());
         while outcome.is_ok() && places.read < pending.len() {
-            let answer = turn(pending, &mut places, at);
-            outcome = admit(ready, &mut places, answer);
+            if let Some(answer) = turn(pending, &mut places, at) {
+                outcome = admit(ready, &mut places, answer);
+            }
         }
         // the gap between what stays and what was not come to is closed, after a fault too
         self.pending.copy_within(places.read..end, places.write);

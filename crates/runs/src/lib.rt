@@ -62,9 +62,11 @@ use std::alloc::{AllocError, Global};
 ///   - `serials`: no serial is held twice
 ///   - `counts`: a held worker's count is what it brought, plus the sent requests that reached it, less those of
 ///     them completed
-///   - `words`: the draws took the words that the source gave, two each and no other
-///   - `shares`: in each draw among two or more, each worker has its share of the remainder pairs
-///   - `drawn_asked`: after each draw the worker drawn is asked next
+///   - `words`: the draws took the words that the source gave, and no other
+///   - `shares`: a draw among two or more takes two words, and each worker has its share of their remainder pairs;
+///     the only ready worker is drawn without a word
+///   - `searched`: each ready worker that a poll asked was drawn right before, among all that were ready, but the
+///     first may have been one that was selected
 pub fn run<'a, D: Discover, R: Rng>(
     slices: Slices<'a, D::Key, D::Service>,
     opening: Opening<D, R>,

@@ -47,15 +47,22 @@ fn estimate<D: Decay>(decay: D, words: &[&str]) -> anyhow::Result<u64> {
     Ok(estimate.to_bits())
 }
 
+// The source of words by hashing a counter, after so many words.
+fn source_after(words: u64) -> HasherRng
+    ensures { result.counter ≡ words }
+{
+    let mut rng = HasherRng::new();
+    for _word in 0..words {
+        let _ = rng.next_u64();
+    }
+    rng
+}
+
 // The word by hashing a counter, after so many others.
 fn nth_word(place: u64) -> u64
     ensures { result ≡ fnv_1a (bytes_of place) }
 {
-    let mut rng = HasherRng::new();
-    for _word in 0..place {
-        let _ = rng.next_u64();
-    }
-    rng.next_u64()
+    source_after(place).next_u64()
 }
 
 // The answer to a line's words.

@@ -20,6 +20,7 @@ use Rattle.cache_model.specs.Cache.{Cache, new_cache}
 use Rattle.balance_model.specs.Meanings.{Meanings}
 use Rattle.balance_model.specs.Draw.{Draw}
 use Rattle.balance_model.specs.Balance.{Balancer, PollOutcome, new_balancer, draws_in, poll}
+use Rattle.worked_cases.specs.declared.removal.TwoPolls.{TwoPolls}
 use Rattle.worked_cases.specs.declared.removal.Removed.{Removed}
 
 abbrev pub kinds : Meanings ℕ (PendingRequests Paced) ℕ ℕ Infallible ℕ (ListFeed ℕ (PendingRequests Paced) ℕ) ℕ ListRng
@@ -30,7 +31,7 @@ abbrev pub answers : PendingRequests Paced → List (Discovered ℕ (PendingRequ
 answers worker = Insert 1 worker ∷ Insert 2 worker ∷ Insert 3 worker ∷ Pending ∷ Remove 1 ∷ []
 
 -- a balancer whose feed gives the answers in this memory, with the words in this memory; a poll reads at most four answers
-abbrev pub balancer : Bor (List (Discovered ℕ (PendingRequests Paced) ℕ)) → Bor (List ℕ) → Balancer (ListFeed ℕ (PendingRequests Paced) ℕ) ListRng
+unfoldable pub balancer : Bor (List (Discovered ℕ (PendingRequests Paced) ℕ)) → Bor (List ℕ) → Balancer (ListFeed ℕ (PendingRequests Paced) ℕ) ListRng
 balancer feed words = new_balancer (list_start feed) (words_start words) 4
 
 -- a poll at the instant 0
@@ -41,16 +42,17 @@ abbrev pub polled_again : Balancer (ListFeed ℕ (PendingRequests Paced) ℕ) Li
 polled_again b c = polled (polled b c).balancer (polled b c).cache
 
 -- the serial at a place among the ready
-abbrev pub serial_at : Cache ℕ (PendingRequests Paced) → ℕ → Option ℕ
+unfoldable pub serial_at : Cache ℕ (PendingRequests Paced) → ℕ → Option ℕ
 serial_at c place = by_some (at c.ready place) None (λ e. Some e.serial)
 
-abbrev pub two_polls : Balancer (ListFeed ℕ (PendingRequests Paced) ℕ) ListRng → Cache ℕ (PendingRequests Paced) → Removed
+unfoldable pub two_polls : Balancer (ListFeed ℕ (PendingRequests Paced) ℕ) ListRng → Cache ℕ (PendingRequests Paced) → TwoPolls
 two_polls b c =
     let left = (polled_again b c).cache in
     record {
       first = (polled b c).answer;
       selected = (polled b c).balancer.selected;
       second = (polled_again b c).answer;
+      selected_again = (polled_again b c).balancer.selected;
       ready = serial_at left 0 ∷ serial_at left 1 ∷ serial_at left 2 ∷ [];
     }
 
@@ -58,13 +60,27 @@ two_polls b c =
 abbrev pub drawn_among : Draw ℕ (PendingRequests Paced) → List ℕ
 drawn_among d = map (λ e. e.serial) d.before
 
+-- what the draws of the second poll found ready
+unfoldable pub draws_again : Balancer (ListFeed ℕ (PendingRequests Paced) ℕ) ListRng → Cache ℕ (PendingRequests Paced) → List (List ℕ)
+draws_again b c = map drawn_among (draws_in (polled_again b c).log.steps)
+
 pub record AsRemoved (r : Removed) : Type 0 where
+  -- the workers 1, 2 and 3 come, and 1 goes
+  pub answers : r.answers ≡ answers (with_none_out new_paced)
+  pub words : r.words ≡ 0 ∷ 1 ∷ 0 ∷ 0 ∷ []
+  -- the memory in which the feed and the source of words found these
+  pub feed : Bor (List (Discovered ℕ (PendingRequests Paced) ℕ))
+  pub source : Bor (List ℕ)
+  pub feed_answers : feed.now ≡ r.answers
+  pub source_words : source.now ≡ r.words
+  -- the polls of a balancer over them, and of a new cache of three places
+  pub polls : r.polls ≡ two_polls (balancer feed source) (new_cache 3 1)
   -- the first worker is named, at the place 0
-  pub first : r.first ≡ Ok (record { worker = Ready 1; lost = 0 })
-  pub selected : r.selected ≡ Some 0
-  -- it goes, the last one moves to its place, and that one is named
-  pub second : r.second ≡ Ok (record { worker = Ready 3; lost = 0 })
-  pub ready : r.ready ≡ Some 3 ∷ Some 2 ∷ None ∷ []
+  pub first : r.polls.first ≡ Ok (record { worker = Ready 1; lost = 0 })
+  pub selected : r.polls.selected ≡ Some 0
+  -- it goes, and the last one moves to its place; the words 0 and 0 draw the place 1, and that one is named
+  pub second : r.polls.second ≡ Ok (record { worker = Ready 2; lost = 0 })
+  pub selected_again : r.polls.selected_again ≡ Some 1
+  pub ready : r.polls.ready ≡ Some 3 ∷ Some 2 ∷ None ∷ []
   -- by one draw, among the two that are left: the place that was selected no longer is
-  pub drawn : (feed : Bor (List (Discovered ℕ (PendingRequests Paced) ℕ))) (words : Bor (List ℕ)) → feed.now ≡ answers (with_none_out new_paced) → words.now ≡ 0 ∷ 1 ∷ [] →
-      map drawn_among (draws_in (polled_again (balancer feed words) (new_cache 3 1)).log.steps) ≡ (3 ∷ 2 ∷ []) ∷ []
+  pub drawn : draws_again (balancer feed source) (new_cache 3 1) ≡ (3 ∷ 2 ∷ []) ∷ []

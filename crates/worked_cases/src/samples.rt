@@ -7,18 +7,22 @@ use rng::list_rng::ListRng;
 use rng::sample_floyd2;
 use service::Weight;
 
-// Two of five places, by the words 7 and 9.
-pub(crate) fn different_remainders() -> [u64; 2]
-    ensures { result ≡ sampled 5 7 9 }
-{
-    sample_floyd2(&mut ListRng::new(&[7, 9]), 5)
+/// Two places, and the words that they are drawn by.
+#[derive(Clone, Copy)]
+pub struct Sample {
+    /// The words, in the order in which they are taken.
+    pub words: [u64; 2],
+    /// The places, from 0.
+    pub places: [u64; 2],
 }
 
-// Two of five places, by the words 3 and 8.
-pub(crate) fn equal_remainders() -> [u64; 2]
-    ensures { result ≡ sampled 5 3 8 }
+// Two of five places, by two words.
+pub(crate) fn two_of_five(first: u64, second: u64) -> Sample
+    ensures { result ≡ record { words = first ∷ second ∷ []; places = sampled 5 first second } }
 {
-    sample_floyd2(&mut ListRng::new(&[3, 8]), 5)
+    let words = [first, second];
+    let places = sample_floyd2(&mut ListRng::new(&words), 5);
+    Sample { words, places }
 }
 
 // The weight of a place: of three places, two weigh 3 and the last one 5.
@@ -40,9 +44,9 @@ fn winner(first: u64, second: u64) -> u64
     }
 }
 
-// The same by each remainder pair.
+// The same by each remainder pair: 0 and 0, 0 and 1, up to 1 and 2.
 pub(crate) fn winners() -> [u64; 6]
-    ensures { result ≡ winner 0 0 ∷ winner 0 1 ∷ winner 0 2 ∷ winner 1 0 ∷ winner 1 1 ∷ winner 1 2 ∷ [] }
+    ensures { result ≡ 0 ∷ 0 ∷ 0 ∷ 1 ∷ 1 ∷ 1 ∷ [] }
 {
     [
         winner(0, 0),

@@ -47,3 +47,8 @@ pub returns-in_err-lost-clause-lawful : goal.returns-in_err-lost-clause-lawful
 returns-in_err-lost-clause-lawful g c =
     let m = kinds g.D.Key.Key.sameness g.D.Service.Endpoint.means g.D.Service.Metric.Weight.order g.D.Discover.feeds g.R.Rng.source in
     poll_lawful m c.args.at c.args.self.now c.args.cache.now
+
+pub returns-in_err-read_feed-clause-lawful : goal.returns-in_err-read_feed-clause-lawful
+returns-in_err-read_feed-clause-lawful g c =
+    let m = kinds g.D.Key.Key.sameness g.D.Service.Endpoint.means g.D.Service.Metric.Weight.order g.D.Discover.feeds g.R.Rng.source in
+    poll_lawful m c.args.at c.args.self.now c.args.cache.now
