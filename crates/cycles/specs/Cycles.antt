@@ -1,17 +1,14 @@
 -- Cycles of poll, call and completion, as steps of the balancer's model.
-use Rattle.std.specs.Prelude.{◌≡◌, ℕ, zero, suc, ◌+◌, ◌-◌, ◌*◌, ◌%◌, ◌^◌, min, Some, None, Ok, Err, Option, Result}
+use Rattle.std.specs.Prelude.{◌≡◌, ℕ, zero, suc, ◌+◌, ◌-◌, ◌*◌, ◌%◌, ◌^◌, min, Some, None, Option, Result}
 use Rattle.std.specs.Option.{unwrap_or}
 use Rattle.model.specs.Outcome.{Outcome, outcome}
 use Rattle.model.specs.Options.{by_some, by_result}
 use Rattle.service.specs.Meaning.{Sameness}
 use Rattle.service.specs.Kinds.{same_number}
-use Rattle.service.specs.declared.poll.Poll.{Poll}
-use Rattle.service.specs.declared.poll.Poll.TheVariants.{Ready, Pending}
 use Rattle.cache_model.specs.Cache.{capacity_of}
 use Rattle.balance_model.specs.declared.answer.CallError.{CallError}
-use Rattle.balance_model.specs.declared.answer.Polled.{Polled}
-use Rattle.balance_model.specs.declared.answer.PollError.{PollError}
 use Rattle.balance_model.specs.declared.pick.Pick.TheVariants as pick
+use Rattle.balance_model.specs.Answers.{named}
 use Rattle.balance_model.specs.Docket.{docket_capacity}
 use Rattle.balance_model.specs.Meanings.{Meanings}
 use Rattle.balance_model.specs.Balance.{Making, State, poll, call, call_answer}
@@ -22,16 +19,6 @@ use Rattle.rng.specs.Sources.{hasher_start}
 -- keys are numbers
 abbrev pub numbers : Sameness ℕ
 numbers = same_number (λ k. k)
-
--- the serial in a Ready
-abbrev pub ready_serial : Poll ℕ → Option ℕ
-ready_serial (Ready serial) = Some serial
-ready_serial Pending = None
-
--- the serial of the worker that a poll named; none where it named nobody or was ended
-abbrev pub named_serial : {F : Type 0} → Result Polled (PollError ℕ F) → Option ℕ
-named_serial (Ok polled) = ready_serial polled.worker
-named_serial (Err e) = None
 
 -- what is answered and left is this
 pub record Leaves {A S : Type 0} (o : Outcome A S) (answer : A) (after : S) : Type 0 where
@@ -54,7 +41,7 @@ module _ {S E W D F R : Type 0} (m : Meanings ℕ S ℕ ℕ E W D F R) (late : �
   unfoldable pub cycle : ℕ → State ℕ S D R → Outcome (Option ℕ) (State ℕ S D R)
   cycle now st =
       let polled = after m st (pick.Poll now) in
-      by_some (named_serial (poll m now st.balancer st.cache).answer) (outcome None polled) (λ serial. request now serial polled)
+      by_some (named (poll m now st.balancer st.cache).answer) (outcome None polled) (λ serial. request now serial polled)
 
   -- so many cycles, at the instants 0, 1000, 2000 and so on: the sum of what they answer, modulo 2^64
   unfoldable pub cycles : ℕ → State ℕ S D R → Outcome ℕ (State ℕ S D R)

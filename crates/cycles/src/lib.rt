@@ -3,9 +3,10 @@
 
 ghost use Rattle.std.specs.Prelude.{◌≡◌, ◌++◌, ◌⊎◌, Some, IfSome, OnSome};
 ghost use Rattle.rng.specs.Sources.{hasher_words};
+ghost use Rattle.balance_model.specs.Answers.{named};
 ghost use Rattle.balance_model.specs.Balance.{newly_made, poll};
 ghost use Rattle.balance.specs.Steps.{kinds, state};
-ghost use Rattle.cycles.specs.Cycles.{numbers, Leaves, named_serial, request, cycle, cycles, making};
+ghost use Rattle.cycles.specs.Cycles.{numbers, Leaves, request, cycle, cycles, making};
 ghost use Rattle.load.specs.Pending.{with_none_out};
 ghost use Rattle.discover.specs.Feeds.{each_inserted};
 ghost use Rattle.cycles.specs.Repeating.{GivesRounds};
@@ -208,7 +209,7 @@ where
     D: Discover<Key = u32, Error = u32>,
     R: Rng,
     D::Service: Endpoint<Request = u32, Response = u64>,
-    ensures answer { result ≡ named_serial
+    ensures answer { result ≡ named
         (poll (kinds numbers D.Service.means D.Service.Metric.order D.feeds R.source)
         at balance.old cache.old).answer }
     ensures balancer { balance.new ≡
