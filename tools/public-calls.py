@@ -3,8 +3,8 @@
 
 usage: python3 tools/public-calls.py        at the top of the repository
 
-A public call is a `pub fn` of a library that crates.txt lists, or a method of one of its public traits; tests do not count, nor do the
-methods of a trait's impls. It stands in docs/calls.md where a row of its crate has its name in backticks, a method of a type or of a
+A public call is a `pub fn` that users of a library in crates.txt can name: one of a public type or trait, or one in a public module,
+or one that a `pub use` names. Tests do not count, nor do the methods of a trait's impls. It stands in docs/calls.md where a row of its crate has its name in backticks, a method of a type or of a
 trait under that: `Docket::note`. The exit status is 1 where one is missing, or where a row names a call that no library has.
 """
 
@@ -53,6 +53,39 @@ def subject(head):
     return re.search(r"(\w+)\W*$", plain).group(1)
 
 
+def is_public(path, root):
+    """Whether each module on the way to a file is public."""
+    modules = path[len(root) :].removesuffix(".rt").removesuffix("/mod").split("/")
+    if modules == ["lib"]:
+        return True
+    parent = f"{root}lib.rt"
+    for i, module in enumerate(modules):
+        if not re.search(rf"^pub mod {module};", open(parent, encoding="utf-8").read(), re.M):
+            return False
+        parent = f"{root}{'/'.join(modules[: i + 1])}.rt"
+    return True
+
+
+def brought_out(text):
+    """The names that a file's `pub use` lines give its users."""
+    for m in re.finditer(r"^pub use ([^;]+);", text, re.M):
+        for name in re.split(r"[{},]", m.group(1)):
+            if name.strip() and not name.strip().endswith("::"):
+                yield re.split(r"::| as ", name.strip())[-1].strip()
+
+
+def public_names(root):
+    """The types, traits and functions of a crate that its users can name."""
+    names = set()
+    for path in glob.glob(f"{root}**/*.rt", recursive=True):
+        if is_public(path, root):
+            text = bare(open(path, encoding="utf-8").read())
+            names.update(re.findall(r"^pub (?:struct|enum|trait) (\w+)", text, re.M))
+            names.update(re.findall(r"^pub (?:const )?(?:unsafe )?(?:extern +)?fn (\w+)", text, re.M))
+            names.update(brought_out(text))
+    return names
+
+
 def calls(text):
     """The public calls of a file, each as it is named in the page."""
     blocks = []
@@ -74,12 +107,15 @@ def calls(text):
 def public_calls():
     """Each public call, with its crate."""
     for crate in libraries():
-        for path in sorted(glob.glob(f"crates/{crate}/src/**/*.rt", recursive=True)):
+        root = f"crates/{crate}/src/"
+        names = public_names(root)
+        for path in sorted(glob.glob(f"{root}**/*.rt", recursive=True)):
             text = bare(open(path, encoding="utf-8").read())
             if path.endswith("tests.rt") or re.search(r"^#\[test\]", text, re.M):
                 continue
             for call in calls(text):
-                yield crate, call
+                if call.split("::")[0] in names:
+                    yield crate, call
 
 
 def listed():

@@ -1,8 +1,8 @@
 -- What an answer without a refusal says.
+use Rattle.std.specs.Net.Reader.{map_or}
 use Rattle.std.proofs.Common.{◌≡◌, Some, None, Ok, Err, Option, Result, refl}
-use Rattle.model.specs.Options.{by_some}
 
 -- what is answered with Ok has nothing against it
-pub admitted : {X : Type 0} (o : Option X) → ◌≡◌ {A = Result (Unit {0}) X} (Ok tt) (by_some o (Ok tt) Err) → o ≡ None
+pub admitted : {X : Type 0} (o : Option X) → ◌≡◌ {A = Result (Unit {0}) X} (Ok tt) (map_or o (Ok tt) Err) → o ≡ None
 admitted None e = refl
 admitted (Some x) e = cc

@@ -1,14 +1,14 @@
-// Sending a request to the worker that the latest poll named. (A balancer owns neither cache nor docket: a call is handed both, and its instant. In the clauses `kinds ..` names the meanings of five bounds, as lib.rt says.)
+// Sending a request to the worker that the latest poll named.
 ghost use Rattle.std.specs.Prelude.{◌≡◌, OnErr};
 ghost use Rattle.balance_model.specs.Balance.{call, call_answer};
-ghost use Rattle.balance.specs.Steps.{kinds, state};
+ghost use Rattle.balance.specs.Steps.{state};
 
-use crate::balance::Balance;
-use balance_model::answer::CallError;
-use cache_model::error::CallRefusal;
+use crate::Balance;
+use balance_model::{CallError, Kinds};
+use cache_model::CallRefusal;
 use discover::Discover;
-use docket::docket::Docket;
-use ready_cache::cache::ReadyCache;
+use docket::Docket;
+use ready_cache::ReadyCache;
 use rng::Rng;
 use service::Endpoint;
 
@@ -26,8 +26,11 @@ where
         request: <D::Service as Endpoint>::Request,
         at: u64,
     ) -> Result<(u64, <D::Service as Endpoint>::Response), CallError>
-        ensures answer { result ≡ call_answer (call (kinds D.Key.sameness D.Service.means D.Service.Metric.order D.feeds R.source) at (state self.old cache.old docket.old) request).answer }
-        ensures after { state self.new cache.new docket.new ≡ (call (kinds D.Key.sameness D.Service.means D.Service.Metric.order D.feeds R.source) at (state self.old cache.old docket.old) request).after }
+        ensures answer { let before = state self.old cache.old docket.old in
+            result ≡ call_answer (call ⟦<D as Kinds<R>>⟧.kinds at before request).answer }
+        ensures after { let before = state self.old cache.old docket.old in
+            let made = call ⟦<D as Kinds<R>>⟧.kinds at before request in
+            state self.new cache.new docket.new ≡ made.after }
         ensures same_balancer { OnErr result (self.new ≡ self.old) }
         ensures same_cache { OnErr result (cache.new ≡ cache.old) }
         ensures same_docket { OnErr result (docket.new ≡ docket.old) }

@@ -1,15 +1,16 @@
-// The end of a request (tower: load/completion). It is handed the cache and the docket, as a call is.
 ghost use Rattle.std.specs.Prelude.{◌≡◌, OnErr};
 ghost use Rattle.balance_model.specs.Balance.{complete};
 
-use balance_model::answer::{CompleteError, Completion};
-use docket::docket::Docket;
-use ready_cache::cache::ReadyCache;
+use balance_model::{CompleteError, Completion};
+use docket::Docket;
+use ready_cache::ReadyCache;
 use service::{Endpoint, Key};
 
-/// Takes the ticket's record from the docket and tells the worker that its request is over, at an instant in nanoseconds.
-/// Answers whether the worker is still held. A ticket without a record is refused, and then nothing changes.
-#[tactic(auto, using(balance_model::proofs::Dockets::complete_unknown, balance_model::proofs::Dockets::removed_none))]
+/// Takes the ticket's record from the docket and tells the worker that its request is over, at an instant in
+/// nanoseconds (tower: the drop of a completion's handle).
+///
+/// Answers whether the worker is still in the cache. A ticket without a record is refused, and then nothing changes.
+#[tactic(auto, using(balance_model::proofs::Completions::complete_unknown, docket::proofs::Removals::removed_none))]
 pub fn complete<K: Key, S: Endpoint>(
     cache: &mut ReadyCache<'_, K, S>,
     docket: &mut Docket<'_>,

@@ -1,16 +1,15 @@
-// Reading the feed: workers come in and go. (A balancer owns no cache: the steps that change it are handed it, and those that read the feed the instant of the poll too. In the clauses `kinds ..` names the meanings of five bounds, as lib.rt says.)
+// Reading the feed: workers come and go.
+ghost use Rattle.std.specs.Net.Reader.{map_or};
 ghost use Rattle.std.specs.Prelude.{◌≡◌, length, Ok, Err};
-ghost use Rattle.model.specs.Options.{by_some};
 ghost use Rattle.cache_model.specs.Entries.{ready_place};
 ghost use Rattle.cache_model.specs.Cache.{evict};
-ghost use Rattle.balance_model.specs.Balance.{Read, read_one, read_feed, still_selected};
-ghost use Rattle.balance.specs.Steps.{kinds, selecting, reading, FedAs};
+ghost use Rattle.balance_model.specs.Balance.{FeedAnswer, read_one, read_feed, still_selected};
+ghost use Rattle.balance.specs.Steps.{with_selected, with_feed_answer, ReadsFeedAs};
 
-use crate::balance::Balance;
-use balance_model::answer::PollError;
-use discover::Discover;
-use discover::discovered::Discovered;
-use ready_cache::cache::ReadyCache;
+use crate::Balance;
+use balance_model::{Kinds, PollError};
+use discover::{Discover, Discovered};
+use ready_cache::ReadyCache;
 use rng::Rng;
 use service::Endpoint;
 
@@ -37,7 +36,9 @@ where
     // Evicts the key, and clears the selection if the selected worker left or moved.
     fn evict(&mut self, cache: &mut ReadyCache<'_, D::Key, D::Service>, key: &D::Key)
         ensures cache { cache.new ≡ (evict D.Key.sameness cache.old key.now).after }
-        ensures after { self.new ≡ selecting self.old (still_selected self.old.selected (length cache.old.ready) (ready_place D.Key.sameness key.now cache.old.ready)) }
+        ensures after { let gone = ready_place D.Key.sameness key.now cache.old.ready in
+            let still = still_selected self.old.selected (length cache.old.ready) gone in
+            self.new ≡ with_selected self.old still }
     {
         let gone = cache.ready_index(key);
         let len = cache.ready_len();
@@ -51,9 +52,13 @@ where
         cache: &mut ReadyCache<'_, D::Key, D::Service>,
         at: u64,
     ) -> Result<bool, PollError<D::Key, D::Error>>
-        ensures answer { result ≡ (read_one D.Key.sameness D.feeds at self.old.feed self.old.selected cache.old).answer }
-        ensures after { self.new ≡ reading self.old (read_one D.Key.sameness D.feeds at self.old.feed self.old.selected cache.old) }
-        ensures cache { cache.new ≡ (read_one D.Key.sameness D.feeds at self.old.feed self.old.selected cache.old).cache }
+        ensures answer { let b = self.old in
+            result ≡ (read_one D.Key.sameness D.feeds at b.feed b.selected cache.old).answer }
+        ensures after { let b = self.old in
+            let one = read_one D.Key.sameness D.feeds at b.feed b.selected cache.old in
+            self.new ≡ with_feed_answer b one }
+        ensures cache { let b = self.old in
+            cache.new ≡ (read_one D.Key.sameness D.feeds at b.feed b.selected cache.old).cache }
     {
         match self.discover.poll_discover(at) {
             Discovered::Pending | Discovered::End => Ok(false),
@@ -75,7 +80,9 @@ where
         cache: &mut ReadyCache<'_, D::Key, D::Service>,
         at: u64,
     ) -> Result<(), PollError<D::Key, D::Error>>
-        ensures { FedAs (read_feed (kinds D.Key.sameness D.Service.means D.Service.Metric.order D.feeds R.source) at self.old.budget self.old.feed self.old.selected cache.old) result self.old self.new cache.new }
+        ensures { let b = self.old in
+            let feed = read_feed ⟦<D as Kinds<R>>⟧.kinds at b.budget b.feed b.selected cache.old in
+            ReadsFeedAs feed result b self.new cache.new }
     {
         for _turn in 0..self.budget {
             if !self.read_one(cache, at)? {

@@ -1,58 +1,32 @@
-// The two-choice balancer (tower: balance/p2c). (A clause names the meanings of key, worker, weight, feed and words by their bounds, as `kinds ..`: there is no shorter form.)
+//! The two-choice balancer (tower: `balance::p2c`).
+//!
+//! A [`Balance`] reads a feed of workers that come and go, and names, at each poll, a ready worker: of two drawn at
+//! random the one that is not heavier. It owns neither the cache nor the docket, so that a caller can look at them:
+//! each call is handed what it needs.
+//!
+//! 1. [`Balance::poll_ready`] names a worker, by its serial, or answers that nobody is ready.
+//! 2. [`Balance::call`] sends one request to the worker that the latest poll named, and answers a ticket with the
+//!    response. Then a poll has to come first again.
+//! 3. [`complete`] takes the ticket when the request is over.
+//!
+//! ```text
+//! let mut balance = Balance::new(feed, 16);
+//! if balance.poll_ready(&mut cache, now)?.worker.ready().is_some() {
+//!     let (ticket, response) = balance.call(&mut cache, &mut docket, request, now)?;
+//!     ..
+//!     complete(&mut cache, &mut docket, ticket, later)?;
+//! }
+//! ```
+//!
+//! `router::Router` holds a balancer, a cache and a docket together.
 #![tactic(auto)]
 
-ghost use Rattle.std.specs.Prelude.{◌≡◌};
-ghost use Rattle.rng.specs.Sources.{hasher_start};
-ghost use Rattle.balance_model.specs.Balance.{new_balancer};
-
-pub mod balance;
+mod balance;
 mod call;
-pub mod completion;
+mod completion;
 mod feed;
 mod poll;
 mod search;
 
-use balance::Balance;
-use rng::Rng;
-use rng::hasher_rng::HasherRng;
-
-// A poll never reads more answers of the feed.
-const MOST_ANSWERS: u32 = 4096;
-
-impl<D> Balance<D, HasherRng> {
-    // A balancer over the feed, with words by hashing a counter.
-    pub fn new(discover: D, budget: u32) -> Self
-        ensures { result ≡ new_balancer discover hasher_start budget }
-    {
-        Balance::from_rng(discover, HasherRng::new(), budget)
-    }
-}
-
-impl<D, R> Balance<D, R> {
-    // A balancer over the feed and the source of words; a poll reads at most `budget` answers of the feed.
-    pub fn from_rng(discover: D, rng: R, budget: u32) -> Self
-        ensures { result ≡ new_balancer discover rng budget }
-    {
-        Balance {
-            discover,
-            rng,
-            budget: budget.min(MOST_ANSWERS),
-            selected: None,
-            fresh: false,
-        }
-    }
-
-    // The place of the selected worker among the ready.
-    pub fn selected(&self) -> Option<usize>
-        ensures { result ≡ self.now.selected }
-    {
-        self.selected
-    }
-
-    // Whether the latest poll named a worker and no request was sent since.
-    pub fn is_fresh(&self) -> bool
-        ensures { result ≡ self.now.fresh }
-    {
-        self.fresh
-    }
-}
+pub use balance::Balance;
+pub use completion::complete;

@@ -1,36 +1,39 @@
 -- A call keeps what holds.
-use Rattle.model.specs.Outcome.{Outcome, outcome}
-use Rattle.model.specs.Options.{by_result, Has}
-use Rattle.model.specs.Lists.{at, swap_remove, Each}
-use Rattle.model.specs.Sums.{one_if}
-use Rattle.model.proofs.Cases.{cond_case, some_case, some_is}
-use Rattle.model.proofs.Totals.{total, total_append, total_mono, total_swap, total_swap_le}
-use Rattle.model.proofs.Places.{each_append, each_map}
+use Rattle.std.specs.List.{AllByRecursion}
+use Rattle.lists.specs.Outcome.{Outcome, outcome}
+use Rattle.lists.specs.Options.{by_result}
+use Rattle.lists.specs.Lists.{swap_remove}
+use Rattle.lists.specs.Sums.{one_if}
+use Rattle.lists.proofs.Std.{count_by_cons}
+use Rattle.lists.proofs.Cases.{cond_case, some_case, some_is}
+use Rattle.lists.proofs.Totals.{total, total_append, total_mono, total_swap, total_swap_le}
+use Rattle.lists.proofs.Places.{each_append, each_map}
 use Rattle.service.specs.Meaning.{Endpoints, refused_by, ceiling}
 use Rattle.cache_model.specs.declared.entry.Entry.{Entry}
-use Rattle.cache_model.specs.declared.error.CallRefusal.{CallRefusal}
+use Rattle.cache_model.specs.declared.call_refusal.CallRefusal.{CallRefusal}
 use Rattle.cache_model.specs.Answers.{as_call, call_number}
-use Rattle.cache_model.specs.Entries.{holding, set_aside}
+use Rattle.cache_model.specs.Entries.{with_endpoint, set_aside}
 use Rattle.cache_model.specs.Cache.{Cache, with_lists}
 use Rattle.cache_model.proofs.Keys.{one_if_le, of_key, aside_single}
 use Rattle.cache_model.proofs.Steps.{sum_held, of_worker, aside_sum}
 use Rattle.cache_model.proofs.Serials.{is_serial, is_pair, pair_serial}
-use Rattle.balance_model.specs.declared.docket_record.DocketRecord.{DocketRecord}
-use Rattle.balance_model.specs.declared.answer.DocketRefusal.{DocketRefusal}
+use Rattle.cache_model.proofs.AtPlace.{call_there}
+use Rattle.docket.specs.declared.docket_record.DocketRecord.{DocketRecord}
+use Rattle.docket.specs.declared.docket_refusal.DocketRefusal.{DocketRefusal}
 use Rattle.balance_model.specs.declared.answer.CallError.{CallError}
-use Rattle.balance_model.specs.Answers.{call_error_number, docket_number}
+use Rattle.docket.specs.Docket.{docket_number, Docket, refusal_of, with_record}
+use Rattle.balance_model.specs.Answers.{call_error_number}
 use Rattle.balance_model.specs.Meanings.{Meanings}
-use Rattle.balance_model.specs.Docket.{Docket, docket_refuses, noted}
-use Rattle.balance_model.specs.Balance.{Balancer, State, Sent, call, call_at, refused}
-use Rattle.balance_model.specs.History.{History, called, Granted, Latest, sent_to}
+use Rattle.balance_model.specs.Balance.{Balancer, State, SentRequest, call, call_at, refused_call}
+use Rattle.balance_model.specs.History.{History, called, Granted, Latest, tickets_sent_to, is_completed}
 use Rattle.balance_model.specs.Promise.{NobodyNamed, CountRight}
 use Rattle.balance_model.proofs.Holds.{Holds, Selected, Open, CallRight, is_ticket, of_record}
-use Rattle.std.proofs.Common.{◌≡◌, ℕ, ◌+◌, ◌<◌, ◌≤◌, Bool, true, false, not, ◌&&◌, T, eqb, ltb, ◌⊎◌, List, [], ◌∷◌, is_some, Some, None, Ok, Err, Option, Result, sym, refl, ap, ◌∙◌, subst, inl, inr, le_trans, arith}
+use Rattle.std.proofs.Common.{◌≡◌, ℕ, suc, cond, count_by, length, ◌+◌, ◌<◌, ◌≤◌, Bool, true, false, not, ◌&&◌, IsTrue, eqb, ltb, ◌⊎◌, List, [], ◌∷◌, is_some, Some, None, Ok, Err, Option, Result, sym, refl, ap, ◌∙◌, subst, inl, inr, le_trans, arith, IsSomeAnd, slice_get}
 use Rattle.std.proofs.lemmas.Bool.{cases_lt, ne_eqb, eq-eqb, ltb-true, eqb-true, not-true, not-false}
 use Rattle.std.proofs.lemmas.Bool.Decides.{eqb_tells}
 use Rattle.service.specs.declared.refusal.EndpointRefusal.{EndpointRefusal}
 use Rattle.service.specs.declared.refusal.EndpointRefusal.TheVariants.{AtCeiling}
-use Rattle.balance_model.specs.declared.answer.DocketRefusal.TheVariants as docket
+use Rattle.docket.specs.declared.docket_refusal.DocketRefusal.TheVariants as docket
 use Rattle.balance_model.specs.declared.answer.CallError.TheVariants as error
 
 -- what the docket refuses has the number 7 or 8
@@ -80,9 +83,9 @@ module _ {K S Q A E W D F R : Type 0} (m : Meanings K S Q A E W D F R) (now : �
 
   -- with a selected worker nothing is spent
   not_spent : (b : Balancer D R) (rs : List (Entry K S)) (h : History K S A E F) → Selected m.endpoints b rs h → NobodyNamed h → ⊥
-  not_spent b rs h s (inl none) = subst (λ (o : Option (Latest K S E F)). Has o (λ l. Granted l.log s.entry.serial)) none s.said
+  not_spent b rs h s (inl none) = subst (λ (o : Option (Latest K S E F)). IsSomeAnd o (λ l. Granted l.log s.entry.serial)) none s.said
   not_spent b rs h s (inr (inl nobody)) = cc
-  not_spent b rs h s (inr (inr since)) = subst T s.unsent since
+  not_spent b rs h s (inr (inr since)) = cc
 
   refused_right : (b : Balancer D R) (rs : List (Entry K S)) (h : History K S A E F) (r : CallError) → Selected m.endpoints b rs h → 5 ≤ call_error_number r → (call_error_number r ≡ 6 → ⊥) → CallRight h (Err r)
   refused_right b rs h r s five six = record {
@@ -102,7 +105,7 @@ module _ {K S Q A E W D F R : Type 0} (m : Meanings K S Q A E W D F R) (now : �
 ticket_first : (t x : ℕ) (xs : List ℕ) → (x ≡ t → ⊥) → total (is_ticket t) (x ∷ xs) ≡ total (is_ticket t) xs
 ticket_first t x xs n = let z : is_ticket t x ≡ 0 = ap one_if (ne_eqb x t n) in omega arith
 
-records_below : {K S A E F : Type 0} (h : History K S A E F) (next t : ℕ) (xs : List DocketRecord) → next ≤ t → Each (Open h next) xs → total (of_record t) xs ≡ 0
+records_below : {K S A E F : Type 0} (h : History K S A E F) (next t : ℕ) (xs : List DocketRecord) → next ≤ t → AllByRecursion (Open h next) xs → total (of_record t) xs ≡ 0
 records_below h next t [] le e = refl
 records_below h next t (x ∷ xs) le e =
     let i = e.0.issued in
@@ -112,13 +115,13 @@ records_below h next t (x ∷ xs) le e =
 
 module _ {K S Q A E W D F R : Type 0} (m : Meanings K S Q A E W D F R) (now : ℕ) (b : Balancer D R) (c : Cache K S) (d : Docket) (h : History K S A E F) (q : Q) (o : Holds m b c d h) (s : Selected m.endpoints b c.ready h) (accepted : refused_by m.endpoints s.entry.endpoint ≡ None) where
   abbrev mine : Entry K S
-  mine = holding s.entry (m.endpoints.accepted s.entry.endpoint q now).after
+  mine = with_endpoint s.entry (m.endpoints.accept s.entry.endpoint q now).after
 
   abbrev left : Cache K S
   left = with_lists c (swap_remove c.ready s.place) (set_aside m.keys mine c.pending)
 
-  abbrev request : Sent A
-  request = record { ticket = d.next; reached = s.entry.serial; response = (m.endpoints.accepted s.entry.endpoint q now).answer }
+  abbrev request : SentRequest A
+  request = record { ticket = d.next; reached = s.entry.serial; response = (m.endpoints.accept s.entry.endpoint q now).answer }
 
   abbrev new : History K S A E F
   new = called now (Ok request) ∷ h
@@ -144,8 +147,8 @@ module _ {K S Q A E W D F R : Type 0} (m : Meanings K S Q A E W D F R) (now : �
 
   one_more_count : m.endpoints.count mine.endpoint ≡ m.endpoints.count s.entry.endpoint + 1
   one_more_count =
-      let granted : T (is_some (m.endpoints.grant s.entry.endpoint)) = subst (λ (g : Option ℕ). T (is_some g)) (sym s.grant) tt in
-      m.endpoints.accepted_count s.entry.endpoint q now granted (not_refused m.endpoints s.entry.endpoint accepted)
+      let granted : IsTrue (is_some (m.endpoints.grant s.entry.endpoint)) = ap is_some s.grant in
+      m.endpoints.count-accept s.entry.endpoint q now granted (not_refused m.endpoints s.entry.endpoint accepted)
 
   own_serial : is_serial s.entry.serial s.entry.serial 0 ≡ 1
   own_serial = ap one_if (eq-eqb s.entry.serial s.entry.serial refl)
@@ -197,8 +200,11 @@ module _ {K S Q A E W D F R : Type 0} (m : Meanings K S Q A E W D F R) (now : �
         at_push = own.at_push;
         sum =
             let e : eqb s.entry.serial s.entry.serial ≡ true = eq-eqb s.entry.serial s.entry.serial refl in
-            let g = own.sum in
-            rw (e, u.out) (omega arith);
+            let sent = tickets_sent_to s.entry.serial h in
+            let out : count_by (is_completed new) (d.next ∷ sent) ≡ count_by (is_completed new) sent =
+            count_by_cons (is_completed new) d.next sent ∙ ap (λ b. cond b (suc (count_by (is_completed new) sent)) (count_by (is_completed new) sent)) u.out in
+            let g : m.endpoints.count s.entry.endpoint + count_by (is_completed new) sent ≡ own.had + length sent = own.sum in
+            rw e (omega (arith, out));
       })
   counts_after x n one (inr t) =
       let a = after (is_pair x n) in
@@ -206,17 +212,17 @@ module _ {K S Q A E W D F R : Type 0} (m : Meanings K S Q A E W D F R) (now : �
       let z : is_pair x n s.entry.serial (m.endpoints.count mine.endpoint) ≡ 0 = rw t.0 refl in
       other_worker x n t.0 (o.counts x n (omega arith))
 
-  unsent_after : (x : ℕ) → c.next ≤ x → sent_to x new ≡ []
+  unsent_after : (x : ℕ) → c.next ≤ x → tickets_sent_to x new ≡ []
   unsent_after x above = let y = own_below in let e : eqb s.entry.serial x ≡ false = ne_eqb s.entry.serial x (omega arith) in rw e (o.unsent x above)
 
   -- a ticket other than the new one
-  other_ticket : (t x : ℕ) → (d.next ≡ t → ⊥) → total (is_ticket t) (sent_to x new) ≡ total (is_ticket t) (sent_to x h)
+  other_ticket : (t x : ℕ) → (d.next ≡ t → ⊥) → total (is_ticket t) (tickets_sent_to x new) ≡ total (is_ticket t) (tickets_sent_to x h)
   other_ticket t x n =
-      cond_case (λ (xs : List ℕ). total (is_ticket t) xs ≡ total (is_ticket t) (sent_to x h)) (eqb s.entry.serial x) _ _
-      (λ _. ticket_first t d.next (sent_to x h) n)
+      cond_case (λ (xs : List ℕ). total (is_ticket t) xs ≡ total (is_ticket t) (tickets_sent_to x h)) (eqb s.entry.serial x) _ _
+      (λ _. ticket_first t d.next (tickets_sent_to x h) n)
       (λ _. refl)
 
-  records_after : Each (Open new (d.next + 1)) (noted d s.entry.serial now).records
+  records_after : AllByRecursion (Open new (d.next + 1)) (with_record d s.entry.serial now).records
   records_after =
       each_append (Open new (d.next + 1)) d.records _
       (each_map (Open h d.next) (Open new (d.next + 1)) (λ x w.
@@ -241,10 +247,10 @@ module _ {K S Q A E W D F R : Type 0} (m : Meanings K S Q A E W D F R) (now : �
         tt,
       )
 
-  tickets_after : (t : ℕ) → total (of_record t) (noted d s.entry.serial now).records ≤ 1
+  tickets_after : (t : ℕ) → total (of_record t) (with_record d s.entry.serial now).records ≤ 1
   tickets_after t = go (eqb_tells d.next t)
     where
-      go : ((eqb d.next t ≡ true) × (d.next ≡ t)) ⊎ ((eqb d.next t ≡ false) × (d.next ≡ t → ⊥)) → total (of_record t) (noted d s.entry.serial now).records ≤ 1
+      go : ((eqb d.next t ≡ true) × (d.next ≡ t)) ⊎ ((eqb d.next t ≡ false) × (d.next ≡ t → ⊥)) → total (of_record t) (with_record d s.entry.serial now).records ≤ 1
       go (inl e) =
           let a = total_append (of_record t) d.records (record { ticket = d.next; serial = s.entry.serial; sent = now } ∷ []) in
           let l = e.1 in
@@ -257,7 +263,7 @@ module _ {K S Q A E W D F R : Type 0} (m : Meanings K S Q A E W D F R) (now : �
           let w = o.tickets t in
           omega arith
 
-  pub sent_holds : Holds m (record { feed = b.feed; words = b.words; budget = b.budget; selected = None; fresh = false }) left (noted d s.entry.serial now) new
+  pub sent_holds : Holds m (record { feed = b.feed; words = b.words; budget = b.budget; selected = None; fresh = false }) left (with_record d s.entry.serial now) new
   sent_holds = record {
     single = record {
       ready = λ k. le_trans (total_swap_le (of_key m.keys k) c.ready s.place) (o.single.ready k);
@@ -271,7 +277,7 @@ module _ {K S Q A E W D F R : Type 0} (m : Meanings K S Q A E W D F R) (now : �
     tickets = tickets_after;
     unissued = λ t above. let u = o.unissued t (omega arith) in record { out = u.out; nowhere = λ x. other_ticket t x (omega arith) ∙ u.nowhere x };
     fresh = λ e. cc;
-    spent = λ _. inr (inr tt);
+    spent = λ _. inr (inr refl);
     calls = (record { reached = (s.named, s.said); six = (λ g. absurd g, λ p. not_spent m now b c.ready h s p); never = (λ g. g, λ g. g) }, o.calls);
     draws = o.draws;
     known = λ i e. cc;
@@ -280,11 +286,11 @@ module _ {K S Q A E W D F R : Type 0} (m : Meanings K S Q A E W D F R) (now : �
 
 module _ {K S Q A E W D F R : Type 0} (m : Meanings K S Q A E W D F R) (now : ℕ) where
   module _ (st : State K S D R) (h : History K S A E F) (q : Q) (o : Holds m st.balancer st.cache st.docket h) where
-    abbrev Goal : Outcome (Result (Sent A) CallError) (State K S D R) → Type 0
+    abbrev Goal : Outcome (Result (SentRequest A) CallError) (State K S D R) → Type 0
     Goal l = Holds m l.after.balancer l.after.cache l.after.docket (called now l.answer ∷ h)
 
     -- what comes of the cache's answer, if the worker at the place is e
-    abbrev noting : Entry K S → Outcome (Result A CallRefusal) (Cache K S) → Outcome (Result (Sent A) CallError) (State K S D R)
+    abbrev noting : Entry K S → Outcome (Result A CallRefusal) (Cache K S) → Outcome (Result (SentRequest A) CallError) (State K S D R)
     noting e k =
         let b = st.balancer in
         by_result k.answer
@@ -293,14 +299,14 @@ module _ {K S Q A E W D F R : Type 0} (m : Meanings K S Q A E W D F R) (now : �
         (record {
           balancer = record { feed = b.feed; words = b.words; budget = b.budget; selected = None; fresh = false };
           cache = k.after;
-          docket = noted st.docket e.serial now;
+          docket = with_record st.docket e.serial now;
         }))
-        (λ r. refused m now st (error.Cache r))
+        (λ r. refused_call m now st (error.Cache r))
 
     call_at_holds : (s : Selected m.endpoints st.balancer st.cache.ready h) → Goal (call_at m now st q s.place)
     call_at_holds s =
-        some_is Goal (at st.cache.ready s.place) _ _ s.entry s.stands
-        (some_is (λ (k : Outcome (Result A CallRefusal) (Cache K S)). Goal (noting s.entry k)) (at st.cache.ready s.place) _ _ s.entry s.stands
+        some_is Goal (slice_get st.cache.ready s.place) _ _ s.entry s.stands
+        (call_there m.keys m.endpoints now (λ (k : Outcome (Result A CallRefusal) (Cache K S)). Goal (noting s.entry k)) st.cache s.place q s.entry s.stands
         (some_case (λ (k : Outcome (Result A CallRefusal) (Cache K S)). Goal (noting s.entry k)) (refused_by m.endpoints s.entry.endpoint) _ _
         (λ accepted. sent_holds m now st.balancer st.cache st.docket h q o s accepted)
         (λ r e.
@@ -314,7 +320,7 @@ module _ {K S Q A E W D F R : Type 0} (m : Meanings K S Q A E W D F R) (now : �
         (λ stale. refused_holds m now b st.cache st.docket h error.NotFresh o (stale_right m now h (o.spent (not-true b.fresh stale))))
         (λ fresh.
         let s = o.fresh (not-false b.fresh fresh) in
-        some_case Goal (docket_refuses st.docket) _ _
+        some_case Goal (refusal_of st.docket) _ _
         (λ _. some_case Goal b.selected _ _
         (λ none. cc)
         (λ i chosen.

@@ -1,36 +1,32 @@
 -- A completion keeps what holds.
-use Rattle.model.specs.Outcome.{Outcome}
-use Rattle.model.specs.Options.{by_some}
-use Rattle.model.specs.Lists.{at, swap_remove, how_many, Each}
-use Rattle.model.specs.Sums.{one_if}
-use Rattle.model.proofs.Cases.{some_case}
-use Rattle.model.proofs.Totals.{total, total_swap, total_swap_le}
-use Rattle.model.proofs.Places.{each_map, each_at, each_swap, place_test}
+use Rattle.std.specs.List.{AllByRecursion}
+use Rattle.std.specs.Net.Reader.{map_or}
+use Rattle.lists.specs.Outcome.{Outcome}
+use Rattle.lists.specs.Lists.{swap_remove}
+use Rattle.lists.specs.Sums.{one_if}
+use Rattle.lists.proofs.Std.{how_many, how_many_is}
+use Rattle.std.proofs.lemmas.List.Sums.{count_by-le-length}
+use Rattle.lists.proofs.Cases.{some_case}
+use Rattle.lists.proofs.Totals.{total, total_swap, total_swap_le}
+use Rattle.lists.proofs.Places.{each_map, each_at, each_swap, place_test}
 use Rattle.cache_model.specs.Cache.{Cache, finish}
 use Rattle.cache_model.proofs.Steps.{sum_held}
 use Rattle.cache_model.proofs.Serials.{is_pair}
-use Rattle.cache_model.proofs.Finish.{Told, finish_told}
-use Rattle.balance_model.specs.declared.docket_record.DocketRecord.{DocketRecord}
+use Rattle.cache_model.proofs.Finish.{FinishEffect, finish_told}
+use Rattle.docket.specs.declared.docket_record.DocketRecord.{DocketRecord}
 use Rattle.balance_model.specs.declared.answer.CompleteError.{CompleteError}
 use Rattle.balance_model.specs.declared.answer.Completion.{Completion}
 use Rattle.balance_model.specs.Meanings.{Meanings}
-use Rattle.balance_model.specs.Docket.{Docket, ticket_place, without}
+use Rattle.docket.specs.Docket.{Docket, ticket_place, without, remove}
 use Rattle.balance_model.specs.Balance.{Balancer, CompleteOutcome, complete, held_or_gone}
-use Rattle.balance_model.specs.History.{History, completed, GrantedInLatest, sent_to, is_completed}
+use Rattle.balance_model.specs.History.{History, completed, GrantedInLatest, tickets_sent_to, is_completed}
 use Rattle.balance_model.specs.Promise.{CountRight}
 use Rattle.balance_model.proofs.Holds.{Holds, Open, is_ticket, of_record}
-use Rattle.std.proofs.Common.{◌≡◌, ℕ, suc, ◌+◌, ◌-◌, ◌≤◌, Bool, true, false, cond, ◌||◌, eqb, ◌⊎◌, List, [], ◌∷◌, length, Some, Ok, Err, Option, sym, refl, ap, ◌∙◌, subst, inl, inr, arith}
+use Rattle.std.proofs.Common.{count_by, ◌≡◌, ℕ, suc, ◌+◌, ◌-◌, ◌≤◌, Bool, true, false, cond, ◌||◌, eqb, ◌⊎◌, List, [], ◌∷◌, Some, Ok, Err, Option, sym, refl, ap, ◌∙◌, subst, inl, inr, arith, None, slice_get}
 use Rattle.std.proofs.lemmas.Bool.{ne_eqb, eq-eqb, eqb-true}
 use Rattle.std.proofs.lemmas.Bool.Decides.{eqb_tells}
 use Rattle.balance_model.specs.declared.answer.CompleteError.TheVariants.{UnknownTicket}
-
-how_many_le : {A : Type 0} (p : A → Bool) (xs : List A) → how_many p xs ≤ length xs
-how_many_le p [] = omega arith
-how_many_le p (x ∷ xs) = go (p x) (how_many_le p xs)
-  where
-    go : (t : Bool) → how_many p xs ≤ length xs → cond t (suc (how_many p xs)) (how_many p xs) ≤ suc (length xs)
-    go true h = omega arith
-    go false h = omega arith
+use Rattle.service.specs.Meaning.{Endpoints}
 
 false_or : (p q : Bool) → p ≡ false → q ≡ false → (p || q) ≡ false
 false_or true q e f = e
@@ -62,7 +58,7 @@ module _ {K S Q A E W D F R : Type 0} (m : Meanings K S Q A E W D F R) (now tick
         searched = (c.ready, o.searched);
       }
 
-  module _ (b : Balancer D R) (c c' : Cache K S) (d : Docket) (h : History K S A E F) (o : Holds m b c d h) (i : ℕ) (gone : DocketRecord) (stands : at d.records i ≡ Some gone) (it_is : gone.ticket ≡ ticket) (told : Told m.keys m.endpoints now c c' gone.serial) (over : Completion) where
+  module _ (b : Balancer D R) (c c' : Cache K S) (d : Docket) (h : History K S A E F) (o : Holds m b c d h) (i : ℕ) (gone : DocketRecord) (stands : slice_get d.records i ≡ Some gone) (it_is : gone.ticket ≡ ticket) (told : FinishEffect m.keys m.endpoints now c c' gone.serial) (over : Completion) where
     abbrev new : History K S A E F
     new = completed now ticket (Ok over) ∷ h
 
@@ -73,9 +69,9 @@ module _ {K S Q A E W D F R : Type 0} (m : Meanings K S Q A E W D F R) (now tick
     not_yet = ap (is_completed h) (sym it_is) ∙ opened.out
 
     -- the completed ones are those of before, and this ticket
-    counted : (xs : List ℕ) → how_many (is_completed new) xs ≡ how_many (is_completed h) xs + total (is_ticket ticket) xs
-    counted [] = refl
-    counted (x ∷ xs) = go (eqb_tells ticket x) (counted xs)
+    counted_by : (xs : List ℕ) → how_many (is_completed new) xs ≡ how_many (is_completed h) xs + total (is_ticket ticket) xs
+    counted_by [] = refl
+    counted_by (x ∷ xs) = go (eqb_tells ticket x) (counted_by xs)
       where
         go : ((eqb ticket x ≡ true) × (ticket ≡ x)) ⊎ ((eqb ticket x ≡ false) × (ticket ≡ x → ⊥)) → how_many (is_completed new) xs ≡ how_many (is_completed h) xs + total (is_ticket ticket) xs → how_many (is_completed new) (x ∷ xs) ≡ how_many (is_completed h) (x ∷ xs) + total (is_ticket ticket) (x ∷ xs)
         go (inl t) ih =
@@ -90,11 +86,14 @@ module _ {K S Q A E W D F R : Type 0} (m : Meanings K S Q A E W D F R) (now tick
             add true = omega arith
             add false = omega arith
 
-    one_here : total (is_ticket ticket) (sent_to gone.serial h) ≡ 1
-    one_here = ap (λ (t : ℕ). total (is_ticket t) (sent_to gone.serial h)) (sym it_is) ∙ opened.sent
+    counted : (xs : List ℕ) → count_by (is_completed new) xs ≡ count_by (is_completed h) xs + total (is_ticket ticket) xs
+    counted xs = how_many_is (is_completed new) xs ∙ counted_by xs ∙ ap (λ n. n + total (is_ticket ticket) xs) (sym (how_many_is (is_completed h) xs))
 
-    none_there : (x : ℕ) → (x ≡ gone.serial → ⊥) → total (is_ticket ticket) (sent_to x h) ≡ 0
-    none_there x ne = ap (λ (t : ℕ). total (is_ticket t) (sent_to x h)) (sym it_is) ∙ opened.nowhere_else x ne
+    one_here : total (is_ticket ticket) (tickets_sent_to gone.serial h) ≡ 1
+    one_here = ap (λ (t : ℕ). total (is_ticket t) (tickets_sent_to gone.serial h)) (sym it_is) ∙ opened.sent
+
+    none_there : (x : ℕ) → (x ≡ gone.serial → ⊥) → total (is_ticket ticket) (tickets_sent_to x h) ≡ 0
+    none_there x ne = ap (λ (t : ℕ). total (is_ticket t) (tickets_sent_to x h)) (sym it_is) ∙ opened.nowhere_else x ne
 
     own_after : (n : ℕ) → 1 ≤ sum_held m.keys m.endpoints (is_pair gone.serial n) c' → CountRight m.endpoints.count new gone.serial n
     own_after n one =
@@ -103,15 +102,15 @@ module _ {K S Q A E W D F R : Type 0} (m : Meanings K S Q A E W D F R) (now tick
       where
         go : (n' : ℕ) → n ≡ n' - 1 → CountRight m.endpoints.count h gone.serial n' → CountRight m.endpoints.count new gone.serial n
         go n' e old =
-            let a = counted (sent_to gone.serial h) in
-            let l = how_many_le (is_completed new) (sent_to gone.serial h) in
+            let a = counted (tickets_sent_to gone.serial h) in
+            let l = count_by-le-length (is_completed new) (tickets_sent_to gone.serial h) in
             let w = one_here in
             let g = old.sum in
             record { had = old.had; at_push = old.at_push; sum = omega arith }
 
     other_after : (x n : ℕ) → (x ≡ gone.serial → ⊥) → CountRight m.endpoints.count h x n → CountRight m.endpoints.count new x n
     other_after x n ne old =
-        let a = counted (sent_to x h) in
+        let a = counted (tickets_sent_to x h) in
         let z = none_there x ne in
         let g = old.sum in
         record { had = old.had; at_push = old.at_push; sum = omega arith }
@@ -121,7 +120,7 @@ module _ {K S Q A E W D F R : Type 0} (m : Meanings K S Q A E W D F R) (now tick
         subst (λ (y : ℕ). CountRight m.endpoints.count new y n) (sym t.1) (own_after n (subst (λ (y : ℕ). 1 ≤ sum_held m.keys m.endpoints (is_pair y n) c') t.1 one))
     counts_after x n one (inr t) = let e = told.others x n t.1 in other_after x n t.1 (o.counts x n (omega arith))
 
-    records_after : (xs : List DocketRecord) → total (of_record ticket) xs ≡ 0 → Each (Open h d.next) xs → Each (Open new d.next) xs
+    records_after : (xs : List DocketRecord) → total (of_record ticket) xs ≡ 0 → AllByRecursion (Open h d.next) xs → AllByRecursion (Open new d.next) xs
     records_after [] z e = tt
     records_after (x ∷ xs) z e =
         let n : eqb x.ticket ticket ≡ false = zero_false (eqb x.ticket ticket) (omega arith) in
@@ -179,7 +178,7 @@ module _ {K S Q A E W D F R : Type 0} (m : Meanings K S Q A E W D F R) (now tick
   complete_holds b c d h o =
       some_case (λ (x : Outcome (Option DocketRecord) Docket). Goal (told x)) (ticket_place d ticket) _ _
       (λ _. refused_holds b c d h UnknownTicket o)
-      (λ i found. some_case Goal (at d.records i) _ _
+      (λ i found. some_case Goal (slice_get d.records i) _ _
       (λ _. refused_holds b c d h UnknownTicket o)
       (λ gone here.
       let it_is : gone.ticket ≡ ticket = eqb-true gone.ticket ticket (place_test (λ s. eqb s.ticket ticket) d.records i gone found here) in
@@ -189,6 +188,12 @@ module _ {K S Q A E W D F R : Type 0} (m : Meanings K S Q A E W D F R) (now tick
       Goal k = Holds m b k.cache k.docket (completed now ticket k.answer ∷ h)
 
       told : Outcome (Option DocketRecord) Docket → CompleteOutcome K S
-      told gone = by_some gone.answer
+      told gone = map_or gone.answer
           (record { answer = Err UnknownTicket; cache = c; docket = d })
           (λ r. let told = finish m.endpoints now c r.serial r.sent in record { answer = Ok (held_or_gone told.answer); cache = told.after; docket = gone.after })
+
+-- an unknown ticket is refused, and nothing changes
+pub complete_unknown : {K S Q A E W : Type 0} (ends : Endpoints S Q A E W) (now : ℕ) (c : Cache K S) (d : Docket) (ticket : ℕ) → (remove d ticket).answer ≡ None →
+    complete ends now c d ticket ≡ record { answer = Err UnknownTicket; cache = c; docket = d }
+complete_unknown ends now c d ticket e =
+    ap (λ (o : Option DocketRecord). map_or o (record { answer = Err UnknownTicket; cache = c; docket = d }) (λ r. let told = finish ends now c r.serial r.sent in record { answer = Ok (held_or_gone told.answer); cache = told.after; docket = (remove d ticket).after })) e

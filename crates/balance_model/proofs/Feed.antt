@@ -1,38 +1,38 @@
 -- What reading the feed does: workers come in under new serials, each with its count.
-use Rattle.model.specs.Options.{by_result}
-use Rattle.model.specs.Sums.{one_if}
-use Rattle.model.proofs.Cases.{cond_case, result_case}
-use Rattle.model.proofs.Totals.{total, total_mono}
+use Rattle.lists.specs.Options.{by_result}
+use Rattle.lists.specs.Sums.{one_if}
+use Rattle.lists.proofs.Cases.{cond_case, result_case}
+use Rattle.lists.proofs.Totals.{total, total_mono}
 use Rattle.service.specs.Meaning.{Sameness, Endpoints}
 use Rattle.cache_model.specs.Entries.{ready_place}
-use Rattle.cache_model.specs.Cache.{Cache, push, evict, taken_in}
+use Rattle.cache_model.specs.Cache.{Cache, push, evict, with_worker}
 use Rattle.cache_model.proofs.Keys.{one_if_le}
 use Rattle.cache_model.proofs.Steps.{sum_held, Single, Keeps, evict_keeps}
 use Rattle.cache_model.proofs.Serials.{is_serial, is_pair, pair_serial}
 use Rattle.cache_model.proofs.Pushes.{push_taken, push_refused, pushed_sum, pushed_single}
 use Rattle.balance_model.specs.Meanings.{Meanings}
-use Rattle.balance_model.specs.Balance.{Pushed, Fed, pushing_first, read_feed, still_selected, Read, stopping}
-use Rattle.balance_model.specs.History.{brought_in}
+use Rattle.balance_model.specs.Balance.{Arrival, FeedOutcome, with_pushes, read_feed, still_selected, FeedAnswer, feed_end}
+use Rattle.balance_model.specs.History.{count_in_pushes}
 use Rattle.balance_model.proofs.Cases.{discovered_case}
 use Rattle.std.proofs.Common.{◌≡◌, ℕ, zero, suc, ◌+◌, ◌<◌, ◌≤◌, Bool, true, false, cond, ◌&&◌, ◌||◌, eqb, ◌⊎◌, [], ◌∷◌, length, Some, None, Option, sym, refl, ap, subst, inl, inr, arith}
 use Rattle.std.proofs.lemmas.Bool.{ne_eqb, eqb-true}
 use Rattle.std.proofs.lemmas.Bool.Decides.{eqb_tells}
 
 module _ {K S Q A E W : Type 0} (keys : Sameness K) (ends : Endpoints S Q A E W) where
-  abbrev pub of_push : (ℕ → ℕ → ℕ) → Pushed S → ℕ
+  abbrev pub of_push : (ℕ → ℕ → ℕ) → Arrival S → ℕ
   of_push f p = f p.serial (ends.count p.worker)
 
-  pub record FedRight {D F : Type 0} (c : Cache K S) (fed : Fed K S D F) : Type 0 where
+  pub record FedRight {D F : Type 0} (c : Cache K S) (fed : FeedOutcome K S D F) : Type 0 where
     pub sums : (f : ℕ → ℕ → ℕ) → sum_held keys ends f fed.cache ≤ sum_held keys ends f c + total (of_push f) fed.pushes
     pub single : Single keys ends c → Single keys ends fed.cache
     pub grows : c.next ≤ fed.cache.next
     pub below : (s : ℕ) → s < c.next → total (of_push (is_serial s)) fed.pushes ≡ 0
     pub above : (s : ℕ) → fed.cache.next ≤ s → total (of_push (is_serial s)) fed.pushes ≡ 0
     pub once : (s : ℕ) → total (of_push (is_serial s)) fed.pushes ≤ 1
-    pub brings_none : (s : ℕ) → s < c.next → brought_in ends.count s fed.pushes ≡ None
-    pub brings : (s n : ℕ) → 1 ≤ total (of_push (is_pair s n)) fed.pushes → brought_in ends.count s fed.pushes ≡ Some n
+    pub brings_none : (s : ℕ) → s < c.next → count_in_pushes ends.count s fed.pushes ≡ None
+    pub brings : (s n : ℕ) → 1 ≤ total (of_push (is_pair s n)) fed.pushes → count_in_pushes ends.count s fed.pushes ≡ Some n
 
-  stays : {D F : Type 0} (c : Cache K S) (fed : Fed K S D F) → fed.cache ≡ c → fed.pushes ≡ [] → FedRight c fed
+  stays : {D F : Type 0} (c : Cache K S) (fed : FeedOutcome K S D F) → fed.cache ≡ c → fed.pushes ≡ [] → FedRight c fed
   stays c fed e p = record {
     sums = λ f. let h : sum_held keys ends f fed.cache ≡ sum_held keys ends f c = ap (sum_held keys ends f) e in omega arith;
     single = λ s. subst (Single keys ends) (sym e) s;
@@ -40,11 +40,11 @@ module _ {K S Q A E W : Type 0} (keys : Sameness K) (ends : Endpoints S Q A E W)
     below = λ s h. ap (total (of_push (is_serial s))) p;
     above = λ s h. ap (total (of_push (is_serial s))) p;
     once = λ s. let h : total (of_push (is_serial s)) fed.pushes ≡ 0 = ap (total (of_push (is_serial s))) p in omega arith;
-    brings_none = λ s h. ap (brought_in ends.count s) p;
+    brings_none = λ s h. ap (count_in_pushes ends.count s) p;
     brings = λ s n h. let z : total (of_push (is_pair s n)) fed.pushes ≡ 0 = ap (total (of_push (is_pair s n))) p in absurd (omega arith);
   }
 
-  keeps_then : {D F : Type 0} (c c' : Cache K S) (fed : Fed K S D F) → Keeps keys ends c c' → FedRight c' fed → FedRight c fed
+  keeps_then : {D F : Type 0} (c c' : Cache K S) (fed : FeedOutcome K S D F) → Keeps keys ends c c' → FedRight c' fed → FedRight c fed
   keeps_then c c' fed k r = let e = k.next in record {
     sums = λ f. let a = k.sums f in let b = r.sums f in omega arith;
     single = λ s. r.single (k.single s);
@@ -56,7 +56,7 @@ module _ {K S Q A E W : Type 0} (keys : Sameness K) (ends : Endpoints S Q A E W)
     brings = r.brings;
   }
 
-  pushing_right : {D F : Type 0} (c : Cache K S) (k : K) (s : S) (fed : Fed K S D F) → FedRight (taken_in keys c k s) fed → FedRight c (pushing_first (record { serial = c.next; worker = s } ∷ []) fed)
+  pushing_right : {D F : Type 0} (c : Cache K S) (k : K) (s : S) (fed : FeedOutcome K S D F) → FedRight (with_worker keys c k s) fed → FedRight c (with_pushes (record { serial = c.next; worker = s } ∷ []) fed)
   pushing_right c k s fed r = record {
     sums = λ f. let a = r.sums f in let b = pushed_sum keys ends f c k s in omega arith;
     single = λ h. r.single (pushed_single keys ends c k s h);
@@ -74,7 +74,7 @@ module _ {K S Q A E W : Type 0} (keys : Sameness K) (ends : Endpoints S Q A E W)
 
       brings_go : (x n : ℕ) → 1 ≤ one_if (eqb c.next x && eqb (ends.count s) n) + total (of_push (is_pair x n)) fed.pushes →
           ((eqb c.next x ≡ true) × (c.next ≡ x)) ⊎ ((eqb c.next x ≡ false) × (c.next ≡ x → ⊥)) →
-          cond (eqb c.next x) (Some (ends.count s)) (brought_in ends.count x fed.pushes) ≡ Some n
+          cond (eqb c.next x) (Some (ends.count s)) (count_in_pushes ends.count x fed.pushes) ≡ Some n
       brings_go x n h (inl t) =
           let q = t.1 in
           let a = r.below x (omega arith) in
@@ -102,9 +102,9 @@ module _ {K S Q A E W D F R : Type 0} (m : Meanings K S Q A E W D F R) (now : �
   pub read_feed_right : (budget : ℕ) (d : D) (selected : Option ℕ) (c : Cache K S) → FedRight m.keys m.endpoints c (read_feed m now budget d selected c)
   read_feed_right zero d selected c = stays m.keys m.endpoints c _ refl refl
   read_feed_right (suc budget) d selected c =
-      let left = m.feeds.discovered d now in
-      let going : Read K S D F → Fed K S D F = λ r. by_result r.answer (λ more. cond more (pushing_first r.pushes (read_feed m now budget r.feed r.selected r.cache)) (stopping r None)) (λ e. stopping r (Some e)) in
-      let Goal : Read K S D F → Type 0 = λ r. FedRight m.keys m.endpoints c (going r) in
+      let left = m.feeds.poll_discover d now in
+      let going : FeedAnswer K S D F → FeedOutcome K S D F = λ r. by_result r.answer (λ more. cond more (with_pushes r.pushes (read_feed m now budget r.feed r.selected r.cache)) (feed_end r None)) (λ e. feed_end r (Some e)) in
+      let Goal : FeedAnswer K S D F → Type 0 = λ r. FedRight m.keys m.endpoints c (going r) in
       discovered_case Goal left.answer _ _ _ _
       (stays m.keys m.endpoints c _ refl refl)
       (λ x. stays m.keys m.endpoints c _ refl refl)
@@ -115,7 +115,7 @@ module _ {K S Q A E W D F R : Type 0} (m : Meanings K S Q A E W D F R) (now : �
       result_case Goal p.answer _ _
       (λ serial e.
       let t = push_taken m.keys m.endpoints c k s serial e in
-      subst (λ (x : ℕ). FedRight m.keys m.endpoints c (pushing_first (record { serial = x; worker = s } ∷ []) more)) (sym t.0)
+      subst (λ (x : ℕ). FedRight m.keys m.endpoints c (with_pushes (record { serial = x; worker = s } ∷ []) more)) (sym t.0)
       (pushing_right m.keys m.endpoints c k s more (subst (λ (x : Cache K S). FedRight m.keys m.endpoints x more) t.1 ih)))
       (λ e refusal. stays m.keys m.endpoints c _ (push_refused m.keys m.endpoints c k s e refusal) refl))
       (λ k. keeps_then m.keys m.endpoints c (evict m.keys c k).after _ (evict_keeps m.keys m.endpoints c k)
@@ -125,9 +125,9 @@ module _ {K S Q A E W D F R : Type 0} (m : Meanings K S Q A E W D F R) (now : �
   pub read_feed_selected : (budget : ℕ) (d : D) (selected : Option ℕ) (c : Cache K S) (i : ℕ) → (read_feed m now budget d selected c).selected ≡ Some i → selected ≡ Some i
   read_feed_selected zero d selected c i = λ e. e
   read_feed_selected (suc budget) d selected c i =
-      let left = m.feeds.discovered d now in
-      let going : Read K S D F → Fed K S D F = λ r. by_result r.answer (λ more. cond more (pushing_first r.pushes (read_feed m now budget r.feed r.selected r.cache)) (stopping r None)) (λ e. stopping r (Some e)) in
-      let Goal : Read K S D F → Type 0 = λ r. (going r).selected ≡ Some i → selected ≡ Some i in
+      let left = m.feeds.poll_discover d now in
+      let going : FeedAnswer K S D F → FeedOutcome K S D F = λ r. by_result r.answer (λ more. cond more (with_pushes r.pushes (read_feed m now budget r.feed r.selected r.cache)) (feed_end r None)) (λ e. feed_end r (Some e)) in
+      let Goal : FeedAnswer K S D F → Type 0 = λ r. (going r).selected ≡ Some i → selected ≡ Some i in
       discovered_case Goal left.answer _ _ _ _
       (λ e. e)
       (λ x e. e)

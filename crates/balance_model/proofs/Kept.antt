@@ -1,17 +1,18 @@
 -- The worker at a selected place keeps its key while the feed is read and the pending workers are asked.
-use Rattle.std.proofs.Common.{◌≡◌, ℕ, zero, suc, Bool, true, false, cond, ◌||◌, eqb, List, [], ◌∷◌, length, take, drop, Some, None, Option, sym, refl, ap, subst}
+use Rattle.std.specs.Net.Reader.{map_or}
+use Rattle.std.proofs.Common.{◌≡◌, ℕ, zero, suc, Bool, true, false, cond, ◌||◌, eqb, List, [], ◌∷◌, length, take, drop, Some, None, Option, sym, refl, ap, subst, IsSomeAnd, slice_get}
 use Rattle.std.proofs.lemmas.Bool.{eqb-false}
-use Rattle.model.specs.Options.{by_some, by_result, Has}
-use Rattle.model.specs.Lists.{at, front, swap_remove}
-use Rattle.model.proofs.Cases.{cond_case, result_case}
+use Rattle.lists.specs.Options.{by_result}
+use Rattle.lists.specs.Lists.{front, swap_remove}
+use Rattle.lists.proofs.Cases.{cond_case, result_case}
 use Rattle.service.specs.Meaning.{Sameness, Endpoints}
 use Rattle.cache_model.specs.declared.entry.Entry.{Entry}
-use Rattle.cache_model.specs.Entries.{has_key, holding, ready_place, promote}
-use Rattle.cache_model.specs.Cache.{Cache, Passed, asking_first, has_place, push, evict, pass, poll_pending}
+use Rattle.cache_model.specs.Entries.{has_key, with_endpoint, ready_place, promote}
+use Rattle.cache_model.specs.Cache.{Cache, Pass, with_question, has_place, push, evict, pass, poll_pending}
 use Rattle.cache_model.proofs.Pushes.{push_taken, push_refused}
 use Rattle.cache_model.proofs.Cases.{readiness_case, pass_case}
 use Rattle.balance_model.specs.Meanings.{Meanings}
-use Rattle.balance_model.specs.Balance.{Read, Fed, pushing_first, stopping, still_selected, read_feed, Settled, settle}
+use Rattle.balance_model.specs.Balance.{FeedAnswer, FeedOutcome, with_pushes, feed_end, still_selected, read_feed, PassesOutcome, settle}
 use Rattle.balance_model.proofs.Cases.{discovered_case}
 use Rattle.balance_model.proofs.Feed.{read_feed_selected}
 
@@ -22,7 +23,7 @@ either_false false b e = (refl, e)
 module _ {K S : Type 0} (k : K) where
   -- the entry at a place has the key
   abbrev pub KeyAt : ℕ → List (Entry K S) → Type 0
-  KeyAt i rs = Has (at rs i) (λ e. e.key ≡ k)
+  KeyAt i rs = IsSomeAnd (slice_get rs i) (λ e. e.key ≡ k)
 
   front_key : (y : Entry K S) (ys : List (Entry K S)) (j : ℕ) → KeyAt j (y ∷ ys) → (suc j ≡ length (y ∷ ys) → ⊥) → KeyAt j (front y ys)
   front_key y [] zero h n = absurd (n refl)
@@ -39,7 +40,7 @@ module _ {K S : Type 0} (k : K) where
   swap_key (x ∷ xs) (suc g) zero h a b = h
   swap_key (x ∷ xs) (suc g) (suc j) h a b = swap_key xs g j h (λ e. a (ap suc e)) (λ e. b (ap suc e))
 
-  still_key : (rs : List (Entry K S)) (selected place : Option ℕ) (i : ℕ) → still_selected selected (length rs) place ≡ Some i → KeyAt i rs → KeyAt i (by_some place rs (swap_remove rs))
+  still_key : (rs : List (Entry K S)) (selected place : Option ℕ) (i : ℕ) → still_selected selected (length rs) place ≡ Some i → KeyAt i rs → KeyAt i (map_or place rs (swap_remove rs))
   still_key rs selected None i e h = h
   still_key rs None (Some gone) i e h = cc
   still_key rs (Some j) (Some gone) i e h =
@@ -62,13 +63,13 @@ module _ {K S : Type 0} (k : K) where
       pass_key : (capacity : ℕ) (rs kept es : List (Entry K S)) (i : ℕ) → KeyAt i rs → KeyAt i (pass keys ends now capacity rs kept es).ready
       pass_key capacity rs kept [] i h = h
       pass_key capacity rs kept (e ∷ es) i h =
-          let left = ends.polled e.endpoint now in
-          let Goal : Passed K S E → Type 0 = λ p. KeyAt i p.ready in
+          let left = ends.poll_ready e.endpoint now in
+          let Goal : Pass K S E → Type 0 = λ p. KeyAt i p.ready in
           cond_case Goal e.cancelled _ _
           (λ _. pass_key capacity rs kept es i h)
-          (λ _. readiness_case (λ (p : Passed K S E). Goal (asking_first (record { serial = e.serial; answer = left.answer }) p)) left.answer _ _ _
+          (λ _. readiness_case (λ (p : Pass K S E). Goal (with_question (record { serial = e.serial; answer = left.answer }) p)) left.answer _ _ _
           (λ _. cond_case Goal (has_place keys capacity rs e.key) _ _
-          (λ _. pass_key capacity (promote keys (holding e left.after) rs) kept es i (promote_key (holding e left.after) rs i h))
+          (λ _. pass_key capacity (promote keys (with_endpoint e left.after) rs) kept es i (promote_key (with_endpoint e left.after) rs i h))
           (λ _. h))
           (λ _. pass_key capacity rs _ es i h)
           (λ _ _. h))
@@ -78,7 +79,7 @@ module _ {K S : Type 0} (k : K) where
       settle_key (suc fuel) c i h =
           let p = poll_pending keys ends now c in
           let one : KeyAt i p.after.ready = pass_key c.capacity c.ready (take c.resume c.pending) (drop c.resume c.pending) i h in
-          pass_case (λ (s : Settled K S E). KeyAt i s.cache.ready) p.answer _ _ _
+          pass_case (λ (s : PassesOutcome K S E). KeyAt i s.cache.ready) p.answer _ _ _
           (λ _ _. one)
           (λ _ _. one)
           (λ _ _. settle_key fuel p.after i one)
@@ -87,9 +88,9 @@ module _ {K S Q A E W D F R : Type 0} (m : Meanings K S Q A E W D F R) (now : �
   pub read_feed_key : (budget : ℕ) (d : D) (selected : Option ℕ) (c : Cache K S) (i : ℕ) → (read_feed m now budget d selected c).selected ≡ Some i → KeyAt k i c.ready → KeyAt k i (read_feed m now budget d selected c).cache.ready
   read_feed_key zero d selected c i = λ e h. h
   read_feed_key (suc budget) d selected c i =
-      let left = m.feeds.discovered d now in
-      let going : Read K S D F → Fed K S D F = λ r. by_result r.answer (λ more. cond more (pushing_first r.pushes (read_feed m now budget r.feed r.selected r.cache)) (stopping r None)) (λ e. stopping r (Some e)) in
-      let Goal : Read K S D F → Type 0 = λ r. (going r).selected ≡ Some i → KeyAt k i c.ready → KeyAt k i (going r).cache.ready in
+      let left = m.feeds.poll_discover d now in
+      let going : FeedAnswer K S D F → FeedOutcome K S D F = λ r. by_result r.answer (λ more. cond more (with_pushes r.pushes (read_feed m now budget r.feed r.selected r.cache)) (feed_end r None)) (λ e. feed_end r (Some e)) in
+      let Goal : FeedAnswer K S D F → Type 0 = λ r. (going r).selected ≡ Some i → KeyAt k i c.ready → KeyAt k i (going r).cache.ready in
       discovered_case Goal left.answer _ _ _ _
       (λ e h. h)
       (λ x e h. h)

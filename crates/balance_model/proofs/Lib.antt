@@ -14,4 +14,3 @@ pub mod Completions
 pub mod Promised
 pub mod Loops
 pub mod Nobody
-pub mod Dockets

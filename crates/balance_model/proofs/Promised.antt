@@ -1,7 +1,7 @@
 -- The promise holds of every run.
-use Rattle.model.specs.Lists.{Each}
-use Rattle.model.proofs.Totals.{total}
-use Rattle.model.proofs.Places.{each_append}
+use Rattle.std.specs.List.{AllByRecursion}
+use Rattle.lists.proofs.Totals.{total}
+use Rattle.lists.proofs.Places.{each_append}
 use Rattle.cache_model.specs.declared.entry.Entry.{Entry}
 use Rattle.cache_model.specs.Cache.{Cache}
 use Rattle.cache_model.proofs.Steps.{sum_held, of_worker}
@@ -10,9 +10,9 @@ use Rattle.cache_model.proofs.Laws.{serials_once, keys_once}
 use Rattle.balance_model.specs.declared.answer.CallError.{CallError}
 use Rattle.balance_model.specs.declared.pick.Pick.{Pick}
 use Rattle.balance_model.specs.Meanings.{Meanings}
-use Rattle.balance_model.specs.Balance.{Making, Sent}
-use Rattle.balance_model.specs.History.{History, polled, called, completed, Run, apply, apply_all, starting, draws_of}
-use Rattle.balance_model.specs.Promise.{EachCall, ReachedNamed, SixThen, NotThreeOrFour, CountRight, words_in, Took, Promise}
+use Rattle.balance_model.specs.Balance.{Making, SentRequest}
+use Rattle.balance_model.specs.History.{History, polled, called, completed, Run, apply, apply_all, new_run, draws_of}
+use Rattle.balance_model.specs.Promise.{EachCall, ReachedNamed, SixIffNobodyNamed, NotThreeOrFour, CountRight, words_in, GivesWords, Promise}
 use Rattle.balance_model.proofs.Holds.{Holds, CallRight}
 use Rattle.balance_model.proofs.Polls.{poll_holds}
 use Rattle.balance_model.proofs.Calls.{call_holds}
@@ -26,7 +26,7 @@ module _ {K S Q A E W D F R : Type 0} (m : Meanings K S Q A E W D F R) where
   abbrev RunHolds : Run K S A E D F R → Type 0
   RunHolds run = Holds m run.state.balancer run.state.cache run.state.docket run.history
 
-  at_first : (made : Making D R) → RunHolds (starting made)
+  at_first : (made : Making D R) → RunHolds (new_run made)
   at_first made = record {
     single = record { ready = λ k. omega arith; pending = λ k. omega arith };
     counts = λ s n one. absurd (omega arith);
@@ -55,7 +55,7 @@ module _ {K S Q A E W D F R : Type 0} (m : Meanings K S Q A E W D F R) where
 
   -- each held worker
   each_count : (h : History K S A E F) (c : Cache K S) → ((s n : ℕ) → 1 ≤ sum_held m.keys m.endpoints (is_pair s n) c → CountRight m.endpoints.count h s n) →
-      (xs : List (Entry K S)) → ((s n : ℕ) → total (of_worker m.keys m.endpoints (is_pair s n)) xs ≤ sum_held m.keys m.endpoints (is_pair s n) c) → Each (λ e. CountRight m.endpoints.count h e.serial (m.endpoints.count e.endpoint)) xs
+      (xs : List (Entry K S)) → ((s n : ℕ) → total (of_worker m.keys m.endpoints (is_pair s n)) xs ≤ sum_held m.keys m.endpoints (is_pair s n) c) → AllByRecursion (λ e. CountRight m.endpoints.count h e.serial (m.endpoints.count e.endpoint)) xs
   each_count h c counts [] le = tt
   each_count h c counts (e ∷ es) le =
       let s : ℕ = e.serial in
@@ -64,16 +64,16 @@ module _ {K S Q A E W D F R : Type 0} (m : Meanings K S Q A E W D F R) where
       let l = le s n in
       (counts s n (omega arith), each_count h c counts es (λ x k. let l = le x k in omega arith))
 
-  each_call : (P Q' : History K S A E F → Result (Sent A) CallError → Type 0) → ((h : History K S A E F) (a : Result (Sent A) CallError) → P h a → Q' h a) → (h : History K S A E F) → EachCall P h → EachCall Q' h
+  each_call : (P Q' : History K S A E F → Result (SentRequest A) CallError → Type 0) → ((h : History K S A E F) (a : Result (SentRequest A) CallError) → P h a → Q' h a) → (h : History K S A E F) → EachCall P h → EachCall Q' h
   each_call P Q' f [] e = tt
   each_call P Q' f (polled now log answer ∷ h) e = each_call P Q' f h e
   each_call P Q' f (called now answer ∷ h) e = (f h answer e.0, each_call P Q' f h e.1)
   each_call P Q' f (completed now ticket answer ∷ h) e = each_call P Q' f h e
 
-  kept : (made : Making D R) (run : Run K S A E D F R) → RunHolds run → Took m.words made.words (words_in (draws_of run.history)) run.state.balancer.words → Promise m made run
+  kept : (made : Making D R) (run : Run K S A E D F R) → RunHolds run → GivesWords m.words made.words (words_in (draws_of run.history)) run.state.balancer.words → Promise m made run
   kept made run o t = record {
     sent = each_call CallRight ReachedNamed (λ h a r. r.reached) run.history o.calls;
-    six = each_call CallRight SixThen (λ h a r. r.six) run.history o.calls;
+    six = each_call CallRight SixIffNobodyNamed (λ h a r. r.six) run.history o.calls;
     never = each_call CallRight NotThreeOrFour (λ h a r. r.never) run.history o.calls;
     keys = keys_once m.keys m.endpoints run.state.cache o.single;
     serials = serials_once m.keys m.endpoints run.state.cache o.serials o.below;
@@ -86,5 +86,5 @@ module _ {K S Q A E W D F R : Type 0} (m : Meanings K S Q A E W D F R) where
   }
 
   -- of every run
-  pub promised : (made : Making D R) (picks : List (Pick Q)) → Promise m made (apply_all m (starting made) picks)
-  promised made picks = kept made _ (all_picks (starting made) picks (at_first made)) (all_took m made.words (starting made) picks refl)
+  pub promised : (made : Making D R) (picks : List (Pick Q)) → Promise m made (apply_all m (new_run made) picks)
+  promised made picks = kept made _ (all_picks (new_run made) picks (at_first made)) (all_took m made.words (new_run made) picks refl)

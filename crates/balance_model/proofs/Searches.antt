@@ -1,29 +1,27 @@
 -- A search draws among all that are ready, and checks the worker drawn.
-use Rattle.std.proofs.Common.{◌≡◌, ℕ, zero, suc, ◌<◌, Bool, true, ltb, List, length, map, set, Some, None, Ok, Option, Result, refl, ap, ◌∙◌, subst, arith, ◌%◌, ◌-◌, cond}
-use Rattle.model.specs.Outcome.{Outcome, outcome}
-use Rattle.model.specs.Options.{by_some}
-use Rattle.model.specs.Lists.{at}
-use Rattle.sampling.specs.Pairs.{first_place}
+use Rattle.std.specs.Net.Reader.{map_or}
+use Rattle.std.proofs.Common.{◌≡◌, ℕ, zero, suc, ◌<◌, Bool, true, ltb, List, length, map, Some, None, Ok, Option, Result, refl, ap, ◌∙◌, subst, arith, ◌%◌, ◌-◌, cond, slice_get}
+use Rattle.rng.specs.Pairs.{first_place}
 use Rattle.rng.specs.Words.{nth_word}
-use Rattle.model.proofs.Cases.{cond_case, some_is}
-use Rattle.model.proofs.Places.{at_some}
+use Rattle.lists.proofs.Cases.{cond_case}
+use Rattle.lists.proofs.Places.{at_some}
 use Rattle.service.specs.declared.readiness.Readiness.{Readiness}
 use Rattle.service.specs.declared.readiness.Readiness.TheVariants as readiness
 use Rattle.service.specs.Meaning.{Endpoints}
 use Rattle.cache_model.specs.declared.entry.Entry.{Entry}
 use Rattle.cache_model.specs.declared.error.Failed.{Failed}
 use Rattle.cache_model.specs.Answers.{by_check}
-use Rattle.cache_model.specs.Entries.{holding}
-use Rattle.cache_model.specs.Cache.{Cache, with_lists, Asked, check, load}
+use Rattle.cache_model.specs.Cache.{Cache, AskOutcome, check, load}
 use Rattle.cache_model.proofs.Cases.{readiness_case}
+use Rattle.cache_model.proofs.AtPlace.{check_there}
 use Rattle.cache_model.proofs.Shrinks.{check_falls}
 use Rattle.balance_model.specs.Meanings.{Meanings}
-use Rattle.balance_model.specs.Draw.{Drawn, draw}
-use Rattle.balance_model.specs.Balance.{checks, Sought, after_these, try, seek, seek_all, select}
+use Rattle.balance_model.specs.Draw.{DrawOutcome, draw}
+use Rattle.balance_model.specs.Balance.{checks, SearchOutcome, with_steps, check_then, search_from, search_all, search_selected}
 use Rattle.balance_model.specs.Search.{ReadyOr, load_read, loads_read, Search}
 use Rattle.balance_model.proofs.Loops.{draw_within}
 use Rattle.balance_model.proofs.Nobody.{none_left}
-use Rattle.model.proofs.Lists.{at_past}
+use Rattle.std.proofs.lemmas.Option.{slice_get_past}
 use Rattle.std.proofs.lemmas.Bool.{ltb-true, ltb-false}
 
 -- of an answer
@@ -45,17 +43,11 @@ module _ {E : Type 0} (A B : Type 0) where
 
 module _ {K S Q A E W : Type 0} (ends : Endpoints S Q A E W) (now : ℕ) where
   load_ready : (c : Cache K S) (i : ℕ) → (load ends now c i).after.ready ≡ load_read ends now i c.ready
-  load_ready c i = go (at c.ready i)
-    where
-      go : (o : Option (Entry K S)) →
-          (by_some {B = Outcome (Option W) (Cache K S)} o (outcome None c) (λ e. outcome (Some (ends.weight e.endpoint now)) (with_lists c (set c.ready i (holding e (ends.loaded e.endpoint now))) c.pending))).after.ready
-          ≡ by_some o c.ready (λ e. set c.ready i (holding e (ends.loaded e.endpoint now)))
-      go None = refl
-      go (Some e) = refl
+  load_ready c i = refl
 
 module _ {K S Q A E W D F R : Type 0} (m : Meanings K S Q A E W D F R) (now : ℕ) where
   -- a draw is among all that are ready, and reads the loads of the two that its words give
-  record DrawAmong (c : Cache K S) (d : Drawn K S R) : Type 0 where
+  record DrawAmong (c : Cache K S) (d : DrawOutcome K S R) : Type 0 where
     before : d.made.before ≡ c.ready
     after : d.cache.ready ≡ loads_read m.endpoints now d.made.words c.ready
 
@@ -71,28 +63,28 @@ module _ {K S Q A E W D F R : Type 0} (m : Meanings K S Q A E W D F R) (now : �
         after = load_ready m.endpoints now (load m.endpoints now c a).after b ∙ ap (load_read m.endpoints now b) (load_ready m.endpoints now c a);
       })
 
-  abbrev Searches : List (Entry K S) → Option ℕ → Sought K S E R → Type 0
+  abbrev Searches : List (Entry K S) → Option ℕ → SearchOutcome K S E R → Type 0
   Searches ready place s = Search m.endpoints now ready place s.steps s.cache.ready
 
   -- the worker at the place is asked, and the search goes on among the others
-  try_search : (more : Cache K S → R → Sought K S E R) (i : ℕ) (c : Cache K S) (r : R) → i < length c.ready →
-      ((c' : Cache K S) → suc (length c'.ready) ≡ length c.ready → Searches c'.ready None (more c' r)) → Searches c.ready (Some i) (try m now more i c r)
+  try_search : (more : Cache K S → R → SearchOutcome K S E R) (i : ℕ) (c : Cache K S) (r : R) → i < length c.ready →
+      ((c' : Cache K S) → suc (length c'.ready) ≡ length c.ready → Searches c'.ready None (more c' r)) → Searches c.ready (Some i) (check_then m now more i c r)
   try_search more i c r h ih = go (at_some c.ready i h)
     where
       falls : ((check m.keys m.endpoints now c i).answer ≡ Ok true → ⊥) → suc (length (check m.keys m.endpoints now c i).after.ready) ≡ length c.ready
       falls = check_falls m.keys m.endpoints now c i h
 
-      goes_on : Asked (Result Bool (Failed K E)) K S E → Sought K S E R
+      goes_on : AskOutcome (Result Bool (Failed K E)) K S E → SearchOutcome K S E R
       goes_on k = by_check k.answer
           (record { place = Some i; cache = k.after; words = r; lost = 0; steps = map checks k.asked })
-          (after_these (map checks k.asked) 0 (more k.after r))
-          (after_these (map checks k.asked) 1 (more k.after r))
+          (with_steps (map checks k.asked) 0 (more k.after r))
+          (with_steps (map checks k.asked) 1 (more k.after r))
 
-      go : (x : Entry K S) × (at c.ready i ≡ Some x) → Searches c.ready (Some i) (try m now more i c r)
+      go : (x : Entry K S) × (slice_get c.ready i ≡ Some x) → Searches c.ready (Some i) (check_then m now more i c r)
       go (e, here) =
-          let left = m.endpoints.polled e.endpoint now in
-          let Goal : Asked (Result Bool (Failed K E)) K S E → Type 0 = λ k. ((k.answer ≡ Ok true → ⊥) → suc (length k.after.ready) ≡ length c.ready) → Searches c.ready (Some i) (goes_on k) in
-          some_is Goal (at c.ready i) _ _ e here
+          let left = m.endpoints.poll_ready e.endpoint now in
+          let Goal : AskOutcome (Result Bool (Failed K E)) K S E → Type 0 = λ k. ((k.answer ≡ Ok true → ⊥) → suc (length k.after.ready) ≡ length c.ready) → Searches c.ready (Some i) (goes_on k) in
+          check_there m.keys m.endpoints now Goal c i e here
           (readiness_case Goal left.answer _ _ _
           (λ said _. (e, here, refl, was_ready _ _ left.answer said (refl, refl)))
           (λ said n. (e, here, refl, was_pending _ _ left.answer said (ih _ (n (λ y. cc)))))
@@ -100,7 +92,7 @@ module _ {K S Q A E W D F R : Type 0} (m : Meanings K S Q A E W D F R) (now : �
           falls
 
   -- a search that draws first
-  seek_search : (fuel : ℕ) (c : Cache K S) (r : R) → length c.ready ≡ fuel → Searches c.ready None (seek m now fuel c r)
+  seek_search : (fuel : ℕ) (c : Cache K S) (r : R) → length c.ready ≡ fuel → Searches c.ready None (search_from m now fuel c r)
   seek_search zero c r n = let e = none_left c.ready (omega arith) in (e, e)
   seek_search (suc fuel) c r n =
       let d = draw m.endpoints m.weights now m.words c r in
@@ -108,19 +100,19 @@ module _ {K S Q A E W D F R : Type 0} (m : Meanings K S Q A E W D F R) (now : �
       let same = w.same in
       let below = w.below (omega arith) in
       let among = draw_among c r in
-      let checked = try_search (seek m now fuel) d.made.place d.cache d.words (omega arith) (λ c' k. seek_search fuel c' d.words (omega arith)) in
-      (among.before, subst (λ (ready : List (Entry K S)). Searches ready (Some d.made.place) (try m now (seek m now fuel) d.made.place d.cache d.words)) among.after checked)
+      let checked = try_search (search_from m now fuel) d.made.place d.cache d.words (omega arith) (λ c' k. seek_search fuel c' d.words (omega arith)) in
+      (among.before, subst (λ (ready : List (Entry K S)). Searches ready (Some d.made.place) (check_then m now (search_from m now fuel) d.made.place d.cache d.words)) among.after checked)
 
   -- a search from a place that is selected, if it is among the ready
-  pub select_search : (selected : Option ℕ) (c : Cache K S) (r : R) → Searches c.ready (by_some selected None (λ i. cond (ltb i (length c.ready)) (Some i) None)) (select m now selected c r)
+  pub select_search : (selected : Option ℕ) (c : Cache K S) (r : R) → Searches c.ready (map_or selected None (λ i. cond (ltb i (length c.ready)) (Some i) None)) (search_selected m now selected c r)
   select_search None c r = seek_search (length c.ready) c r refl
   select_search (Some i) c r =
-      cond_case (λ (place : Option ℕ). Searches c.ready place (select m now (Some i) c r)) (ltb i (length c.ready)) _ _
-      (λ t. try_search (seek_all m now) i c r (ltb-true i (length c.ready) t) (λ c' k. seek_search (length c'.ready) c' r refl))
-      (λ f. rw (at_past c.ready i (ltb-false i (length c.ready) f)) (seek_search (length c.ready) c r refl))
+      cond_case (λ (place : Option ℕ). Searches c.ready place (search_selected m now (Some i) c r)) (ltb i (length c.ready)) _ _
+      (λ t. try_search (search_all m now) i c r (ltb-true i (length c.ready) t) (λ c' k. seek_search (length c'.ready) c' r refl))
+      (λ f. let past = slice_get_past c.ready i (ltb-false i (length c.ready) f) in rw (past, past) (seek_search (length c.ready) c r refl))
 
 -- a place that is selected and among the ready is selected
-pub selected_among : (selected : Option ℕ) (n i : ℕ) → by_some selected None (λ k. cond (ltb k n) (Some k) None) ≡ Some i → selected ≡ Some i
+pub selected_among : (selected : Option ℕ) (n i : ℕ) → map_or selected None (λ k. cond (ltb k n) (Some k) None) ≡ Some i → selected ≡ Some i
 selected_among None n i e = cc
 selected_among (Some k) n i e =
     cond_case (λ (o : Option ℕ). o ≡ Some i → Some k ≡ Some i) (ltb k n) _ _

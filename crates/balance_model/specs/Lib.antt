@@ -1,6 +1,5 @@
 pub mod Meanings
 pub mod Answers
-pub mod Docket
 pub mod Draw
 pub mod Balance
 pub mod Search

@@ -1,18 +1,19 @@
-// One pick of a run, and its answer.
 ghost use Rattle.balance_model.specs.Picks.{ForCalled, CallsMade};
 
-use crate::answer::{CallError, CompleteError, Completion, PollError, Polled};
-
-// A poll, a call with its request, or a completion of a ticket, each at an instant.
+/// One step of a caller: a poll, a call with its request, or a completion of a ticket, each at an instant in
+/// nanoseconds.
 #[derive(Clone, Copy)]
 pub enum Pick<Q> {
+    /// The balancer is polled.
     Poll { at: u64 },
+    /// A request is sent to the worker that the latest poll named.
     Call { request: Q, at: u64 },
+    /// The request under a ticket is over.
     Complete { ticket: u64, at: u64 },
 }
 
 impl<Q> Pick<Q> {
-    // The same, with what `make` makes of the request in a Call.
+    /// The same, with what `make` makes of the request in a Call.
     pub fn map<T, G: FnOnce(Q) -> T>(self, make: G) -> Pick<T>
         requires { ForCalled self (G.pre make) }
         ensures { CallsMade (G.post make) self result }
@@ -26,12 +27,4 @@ impl<Q> Pick<Q> {
             Pick::Complete { ticket, at } => Pick::Complete { ticket, at },
         }
     }
-}
-
-// The answer of a pick; a sent request has its ticket and the response.
-#[derive(Clone, Copy)]
-pub enum Answer<K, A, F> {
-    Polled(Result<Polled, PollError<K, F>>),
-    Called(Result<(u64, A), CallError>),
-    Completed(Result<Completion, CompleteError>),
 }

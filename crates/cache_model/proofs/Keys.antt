@@ -1,14 +1,15 @@
 -- What the list steps do to the entries of a key.
-use Rattle.std.proofs.Common.{◌≡◌, ℕ, suc, ◌+◌, ◌≤◌, Bool, true, false, cond, not, ◌&&◌, ◌||◌, T, List, [], ◌∷◌, ◌++◌, sym, refl, ap, ◌∙◌, subst, arith}
-use Rattle.model.specs.Lists.{how_many}
-use Rattle.model.specs.Sums.{one_if}
-use Rattle.model.proofs.Cases.{cond_case}
-use Rattle.model.proofs.Totals.{total, total_append}
+use Rattle.std.proofs.Common.{◌≡◌, ℕ, suc, ◌+◌, ◌≤◌, Bool, true, false, cond, not, ◌&&◌, ◌||◌, IsTrue, count_by, List, [], ◌∷◌, ◌++◌, sym, refl, ap, ◌∙◌, arith}
+use Rattle.std.proofs.lemmas.Bool.{true≢false, false_from_ne_true}
+use Rattle.lists.proofs.Std.{how_many, how_many_is}
+use Rattle.lists.specs.Sums.{one_if}
+use Rattle.lists.proofs.Cases.{cond_case}
+use Rattle.lists.proofs.Totals.{total, total_append}
 use Rattle.service.specs.Meaning.{Sameness}
 use Rattle.cache_model.specs.declared.entry.Entry.{Entry}
-use Rattle.cache_model.specs.Entries.{has_key, live_of, any_live, cancel, cancelled, promote, set_aside}
+use Rattle.cache_model.specs.Entries.{has_key, live_of, any_live, cancel, with_cancelled, promote, set_aside}
 
-pub how_many_total : {A : Type 0} (p : A → Bool) (xs : List A) → how_many p xs ≡ total (λ x. one_if (p x)) xs
+how_many_total : {A : Type 0} (p : A → Bool) (xs : List A) → how_many p xs ≡ total (λ x. one_if (p x)) xs
 how_many_total p [] = refl
 how_many_total p (x ∷ xs) = go (p x) (how_many_total p xs)
   where
@@ -16,24 +17,22 @@ how_many_total p (x ∷ xs) = go (p x) (how_many_total p xs)
     go true h = omega arith
     go false h = omega arith
 
+-- how many pass, as a sum
+pub count_by_total : {A : Type 0} (p : A → Bool) (xs : List A) → count_by p xs ≡ total (λ x. one_if (p x)) xs
+count_by_total p xs = how_many_is p xs ∙ how_many_total p xs
+
 pub one_if_le : (t : Bool) → one_if t ≤ 1
 one_if_le true = omega arith
 one_if_le false = omega arith
 
-bool_iff : (p q : Bool) → (T p → T q) → (T q → T p) → p ≡ q
+bool_iff : (p q : Bool) → (IsTrue p → IsTrue q) → (IsTrue q → IsTrue p) → p ≡ q
 bool_iff true true f g = refl
-bool_iff true false f g = absurd (f tt)
-bool_iff false true f g = absurd (g tt)
+bool_iff true false f g = sym (f refl)
+bool_iff false true f g = g refl
 bool_iff false false f g = refl
 
-pub T_of : {t : Bool} → t ≡ true → T t
-T_of e = subst T (sym e) tt
-
-pub not_T_of : {t : Bool} → t ≡ false → T t → ⊥
-not_T_of e x = subst T e x
-
 module _ {K : Type 0} (keys : Sameness K) where
-  pub alike : (a b c : K) → T (keys.same a b) → keys.same a c ≡ keys.same b c
+  pub alike : (a b c : K) → IsTrue (keys.same a b) → keys.same a c ≡ keys.same b c
   alike a b c t = bool_iff (keys.same a c) (keys.same b c) (λ u. keys.transitive b a c (keys.symmetric a b t) u) (λ u. keys.transitive a b c t u)
 
 module _ {K S : Type 0} (keys : Sameness K) where
@@ -59,7 +58,7 @@ module _ {K S : Type 0} (keys : Sameness K) where
     where
       go : keys.same e.key r.key ≡ false → (t : Bool) → keys.same k r.key ≡ t → (total (of_key k) rs ≤ 1 → total (of_key k) (promote keys e rs) ≤ 1) → of_key k r + total (of_key k) (promote keys e rs) ≤ 1
       go other true p ih =
-          let none : keys.same k e.key ≡ false = bool_iff (keys.same k e.key) false (λ u. not_T_of other (keys.transitive e.key k r.key (keys.symmetric k e.key u) (T_of p))) (λ u. absurd u) in
+          let none : keys.same k e.key ≡ false = false_from_ne_true (keys.same k e.key) (λ u. true≢false (sym (keys.transitive e.key k r.key (keys.symmetric k e.key u) p) ∙ other)) in
           let q = promote_other k e rs none in
           let one : of_key k r ≡ 1 = ap one_if p in
           omega arith
@@ -68,7 +67,7 @@ module _ {K S : Type 0} (keys : Sameness K) where
           let q = ih (omega arith) in
           omega arith
 
-  cancelled_live : (k : K) (e : Entry K S) → of_live k (cancelled e) ≡ 0
+  cancelled_live : (k : K) (e : Entry K S) → of_live k (with_cancelled e) ≡ 0
   cancelled_live k e = go (has_key keys k e)
     where
       go : (t : Bool) → one_if (t && false) ≡ 0
@@ -82,22 +81,22 @@ module _ {K S : Type 0} (keys : Sameness K) where
       (λ _. let z = cancelled_live k e in omega arith)
       (λ _. let h = cancel_less k j es in omega arith)
 
-  alike_live : (k j : K) (e : Entry K S) → T (keys.same k j) → live_of keys k e ≡ live_of keys j e
+  alike_live : (k j : K) (e : Entry K S) → IsTrue (keys.same k j) → live_of keys k e ≡ live_of keys j e
   alike_live k j e t = ap (λ (b : Bool). b && not e.cancelled) (alike keys k j e.key t)
 
-  pub cancel_all : (k j : K) (ps : List (Entry K S)) → T (keys.same k j) → total (of_live k) ps ≤ 1 → total (of_live k) (cancel keys j ps) ≡ 0
+  pub cancel_all : (k j : K) (ps : List (Entry K S)) → IsTrue (keys.same k j) → total (of_live k) ps ≤ 1 → total (of_live k) (cancel keys j ps) ≡ 0
   cancel_all k j [] t h = refl
   cancel_all k j (e ∷ es) t h =
       cond_case (λ (xs : List (Entry K S)). total (of_live k) xs ≡ 0) (live_of keys j e) _ _
       (λ p. let z = cancelled_live k e in let one : of_live k e ≡ 1 = ap one_if (alike_live k j e t ∙ p) in omega arith)
       (λ p. let none : of_live k e ≡ 0 = ap one_if (alike_live k j e t ∙ p) in let q = cancel_all k j es t (omega arith) in omega arith)
 
-  none_live : (k j : K) (ps : List (Entry K S)) → T (keys.same k j) → any_live keys j ps ≡ false → total (of_live k) ps ≡ 0
+  none_live : (k j : K) (ps : List (Entry K S)) → IsTrue (keys.same k j) → any_live keys j ps ≡ false → total (of_live k) ps ≡ 0
   none_live k j [] t n = refl
   none_live k j (e ∷ es) t n = go (live_of keys j e) refl n (none_live k j es t)
     where
       go : (b : Bool) → live_of keys j e ≡ b → (b || any_live keys j es) ≡ false → (any_live keys j es ≡ false → total (of_live k) es ≡ 0) → of_live k e + total (of_live k) es ≡ 0
-      go true p q ih = absurd (not_T_of q tt)
+      go true p q ih = absurd (true≢false q)
       go false p q ih = let none : of_live k e ≡ 0 = ap one_if (alike_live k j e t ∙ p) in let z = ih q in omega arith
 
   pub aside_single : (k : K) (e : Entry K S) (ps : List (Entry K S)) → total (of_live k) ps ≤ 1 → total (of_live k) (set_aside keys e ps) ≤ 1
@@ -110,5 +109,5 @@ module _ {K S : Type 0} (keys : Sameness K) where
       back = record { key = e.key; endpoint = e.endpoint; serial = e.serial; cancelled = false } ∷ []
 
       go : any_live keys e.key ps ≡ false → (b : Bool) → keys.same k e.key ≡ b → total (of_live k) (ps ++ back) ≤ 1
-      go n true p = let z = none_live k e.key ps (T_of p) n in let s = total_append (of_live k) ps back in let o = one_if_le (keys.same k e.key && true) in omega arith
+      go n true p = let z = none_live k e.key ps p n in let s = total_append (of_live k) ps back in let o = one_if_le (keys.same k e.key && true) in omega arith
       go n false p = let s = total_append (of_live k) ps back in let o : total (of_live k) back ≡ 0 = rw p refl in omega arith

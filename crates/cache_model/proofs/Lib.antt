@@ -1,4 +1,5 @@
 pub mod Cases
+pub mod AtPlace
 pub mod Keys
 pub mod Steps
 pub mod Serials

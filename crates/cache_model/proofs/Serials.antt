@@ -1,6 +1,6 @@
 -- Numbers that tell a serial, and a serial with a count.
 use Rattle.std.proofs.Common.{ℕ, ◌≤◌, Bool, true, false, ◌&&◌, eqb, arith}
-use Rattle.model.specs.Sums.{one_if}
+use Rattle.lists.specs.Sums.{one_if}
 
 -- this serial; this serial with this count
 abbrev pub is_serial : ℕ → ℕ → ℕ → ℕ

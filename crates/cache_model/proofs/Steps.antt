@@ -1,15 +1,15 @@
 -- What the steps of a cache keep: no worker is made or counted anew, and no key gets a second entry.
-use Rattle.std.proofs.Common.{◌≡◌, ℕ, ◌+◌, ◌≤◌, Bool, false, List, [], ◌∷◌, ◌++◌, take, drop, Option, Result, refl, ap, ◌∙◌, le_trans, le_refl, arith}
-use Rattle.model.specs.Outcome.{Outcome}
-use Rattle.model.specs.Lists.{at}
-use Rattle.model.proofs.Cases.{cond_case, some_case}
-use Rattle.model.proofs.Totals.{total, total_append, total_swap, total_swap_le, total_set, total_take_drop}
+use Rattle.std.proofs.Common.{◌≡◌, ℕ, ◌+◌, ◌≤◌, Bool, false, List, [], ◌∷◌, ◌++◌, take, drop, Option, Result, refl, ap, ◌∙◌, le_trans, le_refl, arith, slice_get}
+use Rattle.lists.specs.Outcome.{Outcome}
+use Rattle.lists.proofs.Cases.{cond_case, some_case}
+use Rattle.lists.proofs.Totals.{total, total_append, total_swap, total_swap_le, total_set, total_take_drop}
 use Rattle.service.specs.Meaning.{Sameness, Endpoints}
 use Rattle.cache_model.specs.declared.entry.Entry.{Entry}
 use Rattle.cache_model.specs.declared.error.Failed.{Failed}
-use Rattle.cache_model.specs.Entries.{holding, has_key, live_of, any_live, cancel, promote, set_aside, ready_place}
-use Rattle.cache_model.specs.Cache.{Cache, Question, Asked, with_lists, has_place, asking_first, evict, Passed, pass, poll_pending, check, load}
+use Rattle.cache_model.specs.Entries.{with_endpoint, has_key, live_of, any_live, cancel, promote, set_aside, ready_place}
+use Rattle.cache_model.specs.Cache.{Cache, Question, AskOutcome, with_lists, has_place, with_question, evict, Pass, pass, poll_pending, check, load}
 use Rattle.cache_model.proofs.Cases.{readiness_case}
+use Rattle.cache_model.proofs.AtPlace.{check_place}
 use Rattle.cache_model.proofs.Keys.{of_key, of_live, promote_single, cancel_less, aside_single}
 
 module _ {K S Q A E W : Type 0} (keys : Sameness K) (ends : Endpoints S Q A E W) where
@@ -73,17 +73,17 @@ module _ {K S Q A E W : Type 0} (keys : Sameness K) (ends : Endpoints S Q A E W)
       })
 
   -- an answer leaves the worker's number
-  pub same_worker : (f : ℕ → ℕ → ℕ) (e : Entry K S) (now : ℕ) → of_worker f (holding e (ends.polled e.endpoint now).after) ≡ of_worker f e
-  same_worker f e now = ap (f e.serial) (ends.polled_count e.endpoint now)
+  pub same_worker : (f : ℕ → ℕ → ℕ) (e : Entry K S) (now : ℕ) → of_worker f (with_endpoint e (ends.poll_ready e.endpoint now).after) ≡ of_worker f e
+  same_worker f e now = ap (f e.serial) (ends.count-poll_ready e.endpoint now)
 
   module _ (now : ℕ) where
-    pub record PassKeeps (rs kept todo : List (Entry K S)) (p : Passed K S E) : Type 0 where
+    pub record PassKeeps (rs kept todo : List (Entry K S)) (p : Pass K S E) : Type 0 where
       pub sums : (f : ℕ → ℕ → ℕ) → total (of_worker f) p.ready + total (of_worker f) (p.kept ++ p.rest) ≤ total (of_worker f) rs + total (of_worker f) kept + total (of_worker f) todo
       pub ready : ((k : K) → total (of_key keys k) rs ≤ 1) → (k : K) → total (of_key keys k) p.ready ≤ 1
       pub pending : (k : K) → total (of_live keys k) (p.kept ++ p.rest) ≤ total (of_live keys k) kept + total (of_live keys k) todo
 
     abbrev question : Entry K S → Question E
-    question e = record { serial = e.serial; answer = (ends.polled e.endpoint now).answer }
+    question e = record { serial = e.serial; answer = (ends.poll_ready e.endpoint now).answer }
 
     pass_keeps : (capacity : ℕ) (rs kept todo : List (Entry K S)) → PassKeeps rs kept todo (pass keys ends now capacity rs kept todo)
     pass_keeps capacity rs kept [] = record {
@@ -92,16 +92,16 @@ module _ {K S Q A E W : Type 0} (keys : Sameness K) (ends : Endpoints S Q A E W)
       pending = λ k. let h = total_append (of_live keys k) kept [] in omega arith;
     }
     pass_keeps capacity rs kept (e ∷ es) =
-        let mine : Entry K S = holding e (ends.polled e.endpoint now).after in
-        let Goal : Passed K S E → Type 0 = PassKeeps rs kept (e ∷ es) in
+        let mine : Entry K S = with_endpoint e (ends.poll_ready e.endpoint now).after in
+        let Goal : Pass K S E → Type 0 = PassKeeps rs kept (e ∷ es) in
         cond_case Goal e.cancelled _ _
         (λ _. let ih = pass_keeps capacity rs kept es in record {
           sums = λ f. let h = ih.sums f in omega arith;
           ready = ih.ready;
           pending = λ k. let h = ih.pending k in omega arith;
         })
-        (λ _. readiness_case (λ (p : Passed K S E). Goal (asking_first (question e) p)) (ends.polled e.endpoint now).answer _ _ _
-        (λ _. cond_case (λ (p : Passed K S E). Goal (asking_first (question e) p)) (has_place keys capacity rs e.key) _ _
+        (λ _. readiness_case (λ (p : Pass K S E). Goal (with_question (question e) p)) (ends.poll_ready e.endpoint now).answer _ _ _
+        (λ _. cond_case (λ (p : Pass K S E). Goal (with_question (question e) p)) (has_place keys capacity rs e.key) _ _
         (λ _. let ih = pass_keeps capacity (promote keys mine rs) kept es in record {
           sums = λ f. let h = ih.sums f in let g = promote_sum f mine rs in let w = same_worker f e now in omega arith;
           ready = λ h. ih.ready (λ k. promote_single keys k mine rs (h k));
@@ -138,11 +138,11 @@ module _ {K S Q A E W : Type 0} (keys : Sameness K) (ends : Endpoints S Q A E W)
 
     pub check_keeps : (c : Cache K S) (i : ℕ) → Keeps c (check keys ends now c i).after
     check_keeps c i =
-        some_case (λ (k : Asked (Result Bool (Failed K E)) K S E). Keeps c k.after) (at c.ready i) _ _
+        check_place keys ends now (λ (k : AskOutcome (Result Bool (Failed K E)) K S E). Keeps c k.after) c i
         (λ _. keeps_refl c)
         (λ e here.
-        let mine : Entry K S = holding e (ends.polled e.endpoint now).after in
-        readiness_case (λ (k : Asked (Result Bool (Failed K E)) K S E). Keeps c k.after) (ends.polled e.endpoint now).answer _ _ _
+        let mine : Entry K S = with_endpoint e (ends.poll_ready e.endpoint now).after in
+        readiness_case (λ (k : AskOutcome (Result Bool (Failed K E)) K S E). Keeps c k.after) (ends.poll_ready e.endpoint now).answer _ _ _
         (λ _. record {
           sums = λ f. let h = total_set (of_worker f) c.ready i e mine here (same_worker f e now) in omega arith;
           single = λ s. record { ready = λ k. let h = total_set (of_key keys k) c.ready i e mine here refl in let g = s.ready k in omega arith; pending = s.pending };
@@ -165,12 +165,12 @@ module _ {K S Q A E W : Type 0} (keys : Sameness K) (ends : Endpoints S Q A E W)
     -- reading a load
     pub load_keeps : (c : Cache K S) (i : ℕ) → Keeps c (load ends now c i).after
     load_keeps c i =
-        some_case (λ (o : Outcome (Option W) (Cache K S)). Keeps c o.after) (at c.ready i) _ _
+        some_case (λ (o : Outcome (Option W) (List (Entry K S))). Keeps c (with_lists c o.after c.pending)) (slice_get c.ready i) _ _
         (λ _. keeps_refl c)
         (λ e here.
-        let mine : Entry K S = holding e (ends.loaded e.endpoint now) in
+        let mine : Entry K S = with_endpoint e (ends.load e.endpoint now) in
         record {
-          sums = λ f. let h = total_set (of_worker f) c.ready i e mine here (ap (f e.serial) (ends.loaded_count e.endpoint now)) in omega arith;
+          sums = λ f. let h = total_set (of_worker f) c.ready i e mine here (ap (f e.serial) (ends.count-load e.endpoint now)) in omega arith;
           single = λ s. record { ready = λ k. let h = total_set (of_key keys k) c.ready i e mine here refl in let g = s.ready k in omega arith; pending = s.pending };
           next = refl;
           capacity = refl;

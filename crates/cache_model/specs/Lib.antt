@@ -1,4 +1,5 @@
 pub mod Answers
 pub mod Entries
+pub mod Lists
 pub mod Cache
 pub mod Laws

@@ -1,15 +1,12 @@
 // Memory of no entry, of one, of uneven lengths, and of more than a cache may hold.
-use cache_model::entry::Entry;
-use cache_model::error::{CallRefusal, PushRefusal};
-use load::pending_requests::PendingRequests;
-use ready_cache::cache::ReadyCache;
-use service::Endpoint;
-use service::poll::Poll;
+use cache_model::{CallRefusal, Entry, PushRefusal};
+use load::PendingRequests;
+use ready_cache::ReadyCache;
+use service::{Endpoint, Poll};
 use std::alloc::Global;
 use std::process::Abort;
 use std::test::Fail;
-use workers::answer::Answer;
-use workers::patterned::Patterned;
+use workers::{Answer, Patterned};
 
 // A worker that is always ready.
 fn worker() -> Result<PendingRequests<Patterned>, Fail> {
@@ -24,14 +21,15 @@ fn push_all(
     let worker = worker()?;
     let outcome = (0..pushes)
         .map(|key| cache.push(key, worker))
-        .fold((0u32, None), |(taken, refusal), pushed| match pushed {
-            Ok(_) => (taken.saturating_add(1), refusal),
-            Err(error) => (taken, Some(error.refusal)),
+        .fold((0u32, None), |(count, refusal), answer| match answer {
+            Ok(_) => (count.saturating_add(1), refusal),
+            Err(error) => (count, Some(error.refusal)),
         });
     Ok(outcome)
 }
 
-// In memory of these lengths a cache takes `capacity` workers and refuses the next as full, pending or ready; once one is withdrawn there is a place again.
+// In memory of these lengths a cache takes `capacity` workers and refuses the next as full, while they are pending and
+// when they are ready; once one is withdrawn there is a place again.
 fn holds(
     rt: &impl Abort,
     heap: Global,

@@ -1,2 +1,2 @@
-mod Cycling
-pub mod Listing
+mod Cycles
+pub mod Below

@@ -1,4 +1,4 @@
-pub mod Repeating
+pub mod Repeated
 pub mod Cycles
-pub mod Shapes
+pub mod Shape
 pub mod Sums

@@ -1,13 +1,26 @@
-// The desk's week on one page: the same requests, given to two routers.
+//! A desk's week on one page: the same requests for prices, given to two routers.
+//!
+//! The first router weighs its workers by the requests that they have out, for quotes, the second by response time, for
+//! revaluation. On Thursday two workers are withdrawn and two added. What each router is to do is made by
+//! [`routers::picks`], one list for both; [`routers::quotes`] and [`routers::revaluation`] run it and read the tickets off
+//! the answers. It takes no arguments and no input:
+//!
+//! ```text
+//! cd crates/desk && rt run
+//! ```
+//!
+//! It prints the requests of a day, then both lists of tickets side by side, and for each router what each worker got.
 #![tactic(auto)]
 
-mod router;
-mod tickets;
+mod routers;
+mod tally;
+mod ticket;
 mod week;
 
-use balance_model::pick::Pick;
+use balance_model::Pick;
 use std::fmt;
-use tickets::{Tally, Ticket};
+use tally::Tally;
+use ticket::Ticket;
 
 // A ticket on its side of the page, and blanks where there is none.
 #[derive(Clone, Copy)]
@@ -22,7 +35,7 @@ impl fmt::Display for Side<'_> {
     }
 }
 
-// What was asked for, day by day.
+// The requests of a day, which are the same each day.
 fn print_requests(rt: &HostRuntime) -> anyhow::Result<()> {
     println!(rt; "Requests of each day: minute, broker, bond, seconds to price")?;
     for request in week::requests(0) {
@@ -31,11 +44,12 @@ fn print_requests(rt: &HostRuntime) -> anyhow::Result<()> {
     Ok(())
 }
 
+// Both lists of tickets, side by side.
 fn print_lists(rt: &HostRuntime, quotes: &[Ticket], revaluation: &[Ticket]) -> anyhow::Result<()> {
     println!(rt; "")?;
     println!(rt; "quotes, by requests out          | revaluation, by response time")?;
     println!(rt; "tkt sent at worker answered end  | tkt sent at worker answered end")?;
-    // by place, since a zip ends with the shorter list; one that does not is of another library, for this loop alone
+    // by place, since a zip ends with the shorter list
     for i in 0..quotes.len().max(revaluation.len()) {
         let left = Side(quotes.get(i));
         let right = Side(revaluation.get(i));
@@ -56,17 +70,18 @@ fn print_table(rt: &HostRuntime, title: &str, tickets: &[Ticket]) -> anyhow::Res
     Ok(())
 }
 
+// Runs the picks through both routers, and prints what came of them.
 fn print_week(rt: &HostRuntime, picks: &[Pick<u64>]) -> anyhow::Result<()> {
     let heap = rt.alloc();
-    let quotes = router::quotes(heap, picks)?;
-    let revaluation = router::revaluation(heap, picks)?;
+    let quotes = routers::quotes(heap, picks)?;
+    let revaluation = routers::revaluation(heap, picks)?;
     print_lists(rt, quotes.as_slice(), revaluation.as_slice())?;
     print_table(rt, "quotes", quotes.as_slice())?;
     print_table(rt, "revaluation", revaluation.as_slice())
 }
 
 fn main(rt: HostRuntime) -> anyhow::Result<()> {
-    let picks = router::picks(rt.alloc())?;
+    let picks = routers::picks(rt.alloc())?;
     print_requests(&rt)?;
     print_week(&rt, picks.as_slice())
 }

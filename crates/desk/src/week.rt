@@ -1,23 +1,29 @@
-// The desk's week: its requests, its workers, and who comes and goes.
+// The desk's week: its requests, its workers, and who comes and goes. Instants are nanoseconds from Monday's opening.
 use std::array::IntoIter;
 use std::fmt;
 use std::iter::Chain;
 
-// One nanosecond times this is a second.
+/// The nanoseconds of a second.
 pub const SECOND: u64 = 1_000_000_000;
 
+/// The nanoseconds of a minute.
 pub const MINUTE: u64 = 60 * SECOND;
 
-// A request for a price: who asks for which bond, when, and how long the pricing takes.
+/// A request for the price of a bond.
+///
+/// It prints as the minute, the broker, the bond, and the seconds that pricing takes.
 #[derive(Clone, Copy)]
 pub struct Request {
+    /// Who asks.
     pub broker: &'static str,
+    /// For which bond.
     pub bond: &'static str,
+    /// When, in nanoseconds.
     pub at: u64,
+    /// How long the pricing takes, in nanoseconds.
     pub takes: u64,
 }
 
-// The minute, the broker, the bond, and the seconds that pricing takes.
 impl fmt::Display for Request {
     fn fmt<W: fmt::Write>(&self, f: &mut fmt::Formatter<W>) -> fmt::Result {
         let minute = self.at / MINUTE;
@@ -28,7 +34,7 @@ impl fmt::Display for Request {
     }
 }
 
-// The bonds that a day's brokers ask for, with the minutes after opening and the seconds that pricing takes.
+// A day: who asks for which bond, how many minutes after opening, and the seconds that pricing takes.
 const DAY: [(&str, &str, u64, u64); PER_DAY] = [
     ("Adams", "WATER-31", 0, 40),
     ("Baker", "ROADS-28", 1, 90),
@@ -40,16 +46,16 @@ const DAY: [(&str, &str, u64, u64); PER_DAY] = [
     ("Clark", "PORT-33", 6, 75),
 ];
 
-// Requests of a day.
+/// The requests of a day.
 pub const PER_DAY: usize = 8;
 
-// Monday to Friday.
+/// Monday to Friday.
 pub const DAYS: u64 = 5;
 
-// Instants of a week count from Monday's opening; a day is a thousand minutes.
+/// The nanoseconds from one opening to the next: a thousand minutes.
 pub const DAY_LENGTH: u64 = 1_000 * MINUTE;
 
-// The requests of a day that opens at `opening`.
+/// The requests of the day that opens at the instant `opening`.
 pub fn requests(opening: u64) -> [Request; PER_DAY] {
     DAY.map(|(broker, bond, minute, seconds)| Request {
         broker,
@@ -59,20 +65,21 @@ pub fn requests(opening: u64) -> [Request; PER_DAY] {
     })
 }
 
-// The workers of Monday.
+/// The workers of Monday.
 pub const WORKERS: [&str; 8] = ["lon1", "lon2", "ny1", "ny2", "par1", "fra1", "tok1", "syd1"];
 
-// On Thursday these are withdrawn, and those added.
+/// The workers that are withdrawn on Thursday.
 pub const WITHDRAWN: [&str; 2] = ["lon1", "tok1"];
 
+/// The workers that are added on Thursday, after the withdrawals.
 pub const ADDED: [&str; 2] = ["lon3", "sin1"];
 
-// The workers of a week in the order of the feed, in which serials are given, from 1.
+/// All workers of the week in the order of the feed: the first has the serial 1, the next 2, and so on.
 pub fn workers() -> Chain<IntoIter<&'static str, 8>, IntoIter<&'static str, 2>> {
     WORKERS.into_iter().chain(ADDED)
 }
 
-// The name of the worker with a serial. (What is printed, so a serial that nobody has gets a word too. Ten names are looked through by `find`: a map would be made for one page.)
+/// The name of the worker with a serial, for printing: "none" where no worker has it.
 pub fn worker(serial: u64) -> &'static str {
     (1u64..)
         .zip(workers())

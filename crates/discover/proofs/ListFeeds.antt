@@ -1,9 +1,9 @@
 -- The answers of a feed from a list, by their number.
+use Rattle.std.specs.Net.Reader.{map_or}
 use Rattle.std.proofs.Common.{◌≡◌, ℕ, zero, suc, ◌+◌, ◌<◌, ◌≤◌, cond, ltb, ◌⊎◌, List, length, sym, ap, ◌∙◌, inl, inr, zero-add, arith, Bor}
 use Rattle.std.proofs.lemmas.Bool.{cases_lt}
 use Rattle.std.proofs.lemmas.Bool.Decides.{nat_tests}
-use Rattle.model.specs.Options.{by_some}
-use Rattle.model.proofs.Lists.{at_past}
+use Rattle.std.proofs.lemmas.Option.{slice_get_past}
 use Rattle.discover.specs.declared.discovered.Discovered.{Discovered}
 use Rattle.discover.specs.declared.discovered.Discovered.TheVariants.{End}
 use Rattle.discover.specs.declared.list_feed.ListFeed.{ListFeed}
@@ -19,7 +19,7 @@ stays_at n i h = grind (arith, nat_tests)
 
 module _ {K S F : Type 0} where
   in_list_past : (xs : List (Discovered K S F)) (i : ℕ) → length xs ≤ i → End ≡ in_list xs i
-  in_list_past xs i h = sym (ap (λ o. by_some o End (λ y. y)) (at_past xs i h))
+  in_list_past xs i h = sym (ap (λ o. map_or o End (λ y. y)) (slice_get_past xs i h))
 
   module _ (xs : Bor (List (Discovered K S F))) where
     abbrev from : ℕ → ListFeed K S F

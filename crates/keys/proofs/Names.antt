@@ -20,7 +20,7 @@ use Rattle.std.proofs.lemmas.Bool.{and_parts, and_from, eqb-true, eq-eqb}
 use Rattle.std.proofs.lemmas.Bool.Decides.{nat_tests}
 use Rattle.service.specs.declared.refusal.Invalid.TheVariants as invalid
 use Rattle.keys.specs.declared.name.Name.{Name}
-use Rattle.keys.specs.Names.{letters_or_digits, is_name, without_case, packed, name_of, new_name, text_of, names, SameWithoutCase}
+use Rattle.keys.specs.Names.{letters_or_digits, is_name, without_case, number_of_bytes, name_of, new_name, text_of, names, SameWithoutCase}
 
 -- ---- the bytes of a name
 
@@ -46,7 +46,7 @@ each_below n h [] p = tt
 each_below n h (x ∷ xs) p = (omega (arith, p.0.1), each_below n h xs p.1)
 
 -- seven of them, packed, leave place for one more
-seven_below : (xs : List ℕ) → All Byte xs → length xs ≤ 7 → packed xs < 2 ^ 56
+seven_below : (xs : List ℕ) → All Byte xs → length xs ≤ 7 → number_of_bytes xs < 2 ^ 56
 seven_below xs p h = omega (arith, number_lt 256 xs (each_below 256 (omega arith) xs p), pow-le-pow_right {n = 256} (lit< tt) h)
 
 -- ---- back to the bytes
@@ -59,10 +59,10 @@ unpacked_after n (x ∷ xs) p =
     let step : digits_of 256 m ≡ digits_of 256 n ++ (x ∷ []) = digits_of_step 256 m (omega arith) (omega (arith, p.0.0)) ∙ ap₂ (λ (a b : ℕ). digits_of 256 a ++ (b ∷ [])) (div-mul-add n 256 x small) (mod-mul-add n 256 x small) in
     unpacked_after m xs p.1 ∙ ap (λ (l : List ℕ). l ++ xs) step ∙ append_assoc (digits_of 256 n) (x ∷ []) xs
 
-unpacked : (xs : List ℕ) → All Byte xs → digits_of 256 (packed xs) ≡ xs
+unpacked : (xs : List ℕ) → All Byte xs → digits_of 256 (number_of_bytes xs) ≡ xs
 unpacked xs p = unpacked_after 0 xs p
 
-packed_same : (xs ys : List ℕ) → All Byte xs → All Byte ys → packed xs ≡ packed ys → xs ≡ ys
+packed_same : (xs ys : List ℕ) → All Byte xs → All Byte ys → number_of_bytes xs ≡ number_of_bytes ys → xs ≡ ys
 packed_same xs ys p q e = sym (unpacked xs p) ∙ ap (digits_of 256) e ∙ unpacked ys q
 
 -- ---- what a name of a text is
@@ -86,19 +86,19 @@ name_made text m e = go (is_name text) refl e
 pub same_without_case : (text : List ℕ) → letters_or_digits text ≡ true → SameWithoutCase text (name_of text)
 same_without_case text h other m e =
     let made = name_made other m e in
-    let a : ℕ = packed (without_case text) in
-    let b : ℕ = packed (without_case other) in
+    let a : ℕ = number_of_bytes (without_case text) in
+    let b : ℕ = number_of_bytes (without_case other) in
     let tests : Decides (eqb a b) (without_case text ≡ without_case other) = (
       λ t. packed_same (without_case text) (without_case other) (lower_bytes text h) (lower_bytes other made.0) (eqb-true a b t),
-      λ t. eq-eqb a b (ap packed t),
+      λ t. eq-eqb a b (ap number_of_bytes t),
     ) in
     subst (λ (n : Name). Decides (names.same (name_of text) n) (without_case text ≡ without_case other)) (sym made.1) tests
 
 -- ---- byte by byte
 
 pub record PackedSoFar (xs : List ℕ) (letters folded : ℕ) : Type 0 where
-  pub letters_is : letters ≡ packed xs
-  pub folded_is : folded ≡ packed (without_case xs)
+  pub letters_is : letters ≡ number_of_bytes xs
+  pub folded_is : folded ≡ number_of_bytes (without_case xs)
 
 all_taken : (i : ℕ) (xs : List ℕ) → letters_or_digits xs ≡ true → letters_or_digits (take i xs) ≡ true
 all_taken zero xs h = refl
@@ -117,14 +117,14 @@ small_so_far text i letters folded h k p =
     let b = seven_below (without_case xs) (lower_bytes xs all) (rw (length-map xs to_ascii_lowercase) few) in
     (omega (arith, p.letters_is), omega (arith, p.folded_is))
 
-pub packed_step : (text : List ℕ) (i : ℕ) → i < length text → packed (take (i + 1) text) ≡ packed (take i text) * 256 + get_or text i 0
-packed_step text i h = ap packed (take_more text i 0 h) ∙ number_push 256 (take i text) (get_or text i 0)
+pub packed_step : (text : List ℕ) (i : ℕ) → i < length text → number_of_bytes (take (i + 1) text) ≡ number_of_bytes (take i text) * 256 + get_or text i 0
+packed_step text i h = ap number_of_bytes (take_more text i 0 h) ∙ number_push 256 (take i text) (get_or text i 0)
 
-pub folded_step : (text : List ℕ) (i : ℕ) → i < length text → packed (without_case (take (i + 1) text)) ≡ packed (without_case (take i text)) * 256 + to_ascii_lowercase (get_or text i 0)
+pub folded_step : (text : List ℕ) (i : ℕ) → i < length text → number_of_bytes (without_case (take (i + 1) text)) ≡ number_of_bytes (without_case (take i text)) * 256 + to_ascii_lowercase (get_or text i 0)
 folded_step text i h =
     let xs = take i text in
     let x : ℕ = get_or text i 0 in
-    ap (λ (l : List ℕ). packed (without_case l)) (take_more text i 0 h) ∙ ap packed (map_push to_ascii_lowercase xs x) ∙ number_push 256 (without_case xs) (to_ascii_lowercase x)
+    ap (λ (l : List ℕ). number_of_bytes (without_case l)) (take_more text i 0 h) ∙ ap number_of_bytes (map_push to_ascii_lowercase xs x) ∙ number_push 256 (without_case xs) (to_ascii_lowercase x)
 
 -- what is promised of a name n that is made of a text
 pub record Made (text : List ℕ) (n : Name) : Type 0 where

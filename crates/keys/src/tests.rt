@@ -1,5 +1,5 @@
 // A name is printed as it was spelt: that printing succeeds where the writer does no contract says.
-use crate::name::Name;
+use crate::Name;
 use std::alloc::Global;
 use std::test::Fail;
 

@@ -1,67 +1,43 @@
-// Load measures: endpoints over bare services (tower: load).
+//! Load measures: how heavy a worker is, by requests out or by response time (tower: `load`).
+//!
+//! A balancer prefers the lighter of two workers. It takes each as a `service::Endpoint`, and this
+//! crate makes an endpoint of any bare `service::Service`, in one of two ways:
+//!
+//! - [`PendingRequests`]: the weight is the number of requests out.
+//! - [`PeakEwma`]: the weight is a [`Cost`], the estimated response time, once for each request out
+//!   and once more. [`PeakEwmaDiscover`] makes such an endpoint of each service that a feed inserts.
+//!
+//! The estimate of a `PeakEwma` is an [`RttEstimate`], a moving average that jumps up to a peak at
+//! once and comes down over time. A [`Decay`] says how fast: [`Halving`] or [`Squaring`].
+//!
+//! Instants and durations are whole nanoseconds. Each instant comes from the caller, and a clock that
+//! goes back shows no time.
+//!
+//! ```text
+//! const SECOND: u64 = 1_000_000_000;
+//! let settings = Settings { decay: Halving, default_rtt: SECOND, decay_period: 10 * SECOND };
+//! let mut endpoint = PeakEwma::new(service, settings, now)?;
+//! let _ = endpoint.poll_ready(now);            // Ready: a call is allowed
+//! let response = endpoint.call(request, now)?; // one more request is out
+//! endpoint.finish(now, later);                 // it took later - now: updates the estimate
+//! let cost = endpoint.load(later);             // the weight; the estimate decays to this instant
+//! ```
 #![tactic(auto)]
 
-ghost use Rattle.std.specs.Prelude.{◌≡◌};
-ghost use Rattle.load.specs.Pending.{over, with_none_out};
+mod cost;
+mod decay;
+mod peak_ewma;
+mod peak_ewma_discover;
+mod pending_requests;
+mod rtt_estimate;
+mod settings;
+#[cfg(test)]
+mod tests;
 
-pub mod pending_requests;
-
-use pending_requests::PendingRequests;
-use service::readiness::Readiness;
-use service::refusal::EndpointRefusal;
-use service::{Endpoint, Service};
-
-// A call is refused at this count of requests out, and above.
-pub const CEILING: u32 = u32::MAX - 1;
-
-impl<S: Service> PendingRequests<S> {
-    // An endpoint over the service, with no request out.
-    pub fn new(service: S) -> Self
-        ensures made { result ≡ with_none_out service }
-        ensures count { (over S.Service.serves).count result ≡ 0 }
-        ensures grant { (over S.Service.serves).grant result ≡ S.Service.serves.grant service }
-    {
-        PendingRequests { service, count: 0 }
-    }
-}
-
-// The weight is the number of requests out.
-impl<S: Service> Endpoint for PendingRequests<S> {
-    type Request = S::Request;
-
-    type Response = S::Response;
-
-    type Error = S::Error;
-
-    type Metric = u32;
-
-    ghost means = { over S.Service.serves };
-
-    fn count(&self) -> u32 {
-        self.count
-    }
-
-    fn poll_ready(&mut self, at: u64) -> Readiness<S::Error> {
-        self.service.poll_ready(at)
-    }
-
-    fn call(&mut self, request: S::Request, at: u64) -> Result<S::Response, EndpointRefusal> {
-        if !self.service.is_granted() {
-            return Err(EndpointRefusal::NoGrant);
-        }
-        if self.count >= CEILING {
-            return Err(EndpointRefusal::AtCeiling);
-        }
-        let response = self.service.call(request, at)?;
-        self.count += 1;
-        Ok(response)
-    }
-
-    fn finish(&mut self, _sent: u64, _at: u64) {
-        self.count = self.count.saturating_sub(1);
-    }
-
-    fn load(&mut self, _at: u64) -> u32 {
-        self.count
-    }
-}
+pub use cost::Cost;
+pub use decay::{Decay, Halving, Squaring};
+pub use peak_ewma::PeakEwma;
+pub use peak_ewma_discover::PeakEwmaDiscover;
+pub use pending_requests::{CEILING, PendingRequests};
+pub use rtt_estimate::{RttEstimate, estimates_stay_finite, nanos, no_reading_raises};
+pub use settings::Settings;

@@ -1,26 +1,26 @@
 -- What a pass that ended leaves of the cache.
+use Rattle.std.specs.Net.Reader.{map_or}
 use Rattle.std.proofs.Common.{◌≡◌, ℕ, zero, suc, ◌+◌, ◌-◌, ◌<◌, ◌≤◌, min, List, [], ◌∷◌, ◌++◌, length, take, drop, None, Ok, Err, Result, sym, refl, ap, ap₂, ◌∙◌, subst, ⊎_elim, arith}
 use Rattle.std.specs.List.{copy_within}
 use Rattle.std.proofs.lemmas.List.{length-take-le, length-append, length-drop, drop_all, take-take, take_all, take_at, take-append-le, drop-append-le}
 use Rattle.std.proofs.lemmas.List.Edits.{take-paste}
 use Rattle.std.proofs.lemmas.Bool.{cases_lt}
-use Rattle.model.specs.Options.{by_some}
 use Rattle.service.specs.Meaning.{Sameness, Endpoints}
 use Rattle.service.specs.declared.poll.Poll.{Poll}
 use Rattle.service.specs.declared.poll.Poll.TheVariants as poll
 use Rattle.cache_model.specs.declared.entry.Entry.{Entry}
 use Rattle.cache_model.specs.declared.error.PendingError.{PendingError}
-use Rattle.cache_model.specs.Cache.{Cache, capacity_of, emptied, pass, poll_pending}
+use Rattle.cache_model.specs.Cache.{Cache, capacity_of, nothing_pending, pass, poll_pending}
 use Rattle.ready_cache.specs.declared.places.Places.{Places}
-use Rattle.ready_cache.specs.declared.cache.ReadyCache.TheInside.{Inside}
+use Rattle.ready_cache.specs.declared.ready_cache.ReadyCache.TheInside.{Inside}
 use Rattle.ready_cache.proofs.Views.{seen, shown, Fits}
-use Rattle.ready_cache.proofs.Passes.{Ended, ended, fault_of, Came, comes_to, came_as}
+use Rattle.ready_cache.proofs.Passes.{PassEnd, ended, fault_of, PassSoFar, comes_to, came_as}
 
-pub emptied_none : {A : Type 0} (xs : List A) (n : ℕ) → n ≡ 0 → emptied (take n xs) ≡ poll.Ready tt
+pub emptied_none : {A : Type 0} (xs : List A) (n : ℕ) → n ≡ 0 → nothing_pending (take n xs) ≡ poll.Ready tt
 emptied_none xs zero h = refl
 emptied_none xs (suc n) h = absurd (omega arith)
 
-pub emptied_some : {A : Type 0} (xs : List A) (n : ℕ) → n ≤ length xs → 0 < n → emptied (take n xs) ≡ poll.Pending
+pub emptied_some : {A : Type 0} (xs : List A) (n : ℕ) → n ≤ length xs → 0 < n → nothing_pending (take n xs) ≡ poll.Pending
 emptied_some xs zero l h = absurd (omega arith)
 emptied_some [] (suc n) l h = absurd (omega arith)
 emptied_some (x ∷ xs) (suc n) l h = refl
@@ -51,21 +51,21 @@ module _ {K S Q A E W : Type 0} (keys : Sameness K) (ends : Endpoints S Q A E W)
       ∙ ap (λ z. ended (pass keys ends now capacity (take r xs) (take z ys) (drop z ys))) (sym e)))
       (cases_lt resume (length ys))
 
-  abbrev answer_of : Ended K S E → Result (Poll (Unit {0})) (PendingError K E)
-  answer_of p = by_some p.fault (Ok (emptied p.kept)) Err
+  abbrev answer_of : PassEnd K S E → Result (Poll (Unit {0})) (PendingError K E)
+  answer_of p = map_or p.fault (Ok (nothing_pending p.kept)) Err
 
-  abbrev after_of : ℕ → ℕ → Ended K S E → Cache K S
-  after_of next capacity p = record { ready = p.ready; pending = p.kept ++ p.rest; next = next; resume = by_some p.fault 0 (λ _. length p.kept); capacity = capacity }
+  abbrev after_of : ℕ → ℕ → PassEnd K S E → Cache K S
+  after_of next capacity p = record { ready = p.ready; pending = p.kept ++ p.rest; next = next; resume = map_or p.fault 0 (λ _. length p.kept); capacity = capacity }
 
   -- a pass over the memory f ended at q with the result r: the memory is m then, with xs' and ys' at the front of its lists
-  pub record Stopped (f m : Inside K S) (capacity : ℕ) (xs' ys' : List (Entry K S)) (q : Places) (r : Result (Unit {0}) (PendingError K E)) : Type 0 where
+  pub record PassStop (f m : Inside K S) (capacity : ℕ) (xs' ys' : List (Entry K S)) (q : Places) (r : Result (Unit {0}) (PendingError K E)) : Type 0 where
     pub ready : m.ready.now ≡ xs' ++ drop capacity f.ready.now
     pub pending : m.pending.now ≡ ys' ++ drop f.pending_count f.pending.now
     pub next : m.next_serial ≡ f.next_serial
     pub done : fault_of r ≡ None → length ys' ≤ q.read
 
-  pub stopped_as : {f m m' : Inside K S} {capacity : ℕ} {xs' ys' : List (Entry K S)} {q : Places} {r : Result (Unit {0}) (PendingError K E)} → m ≡ m' → Stopped f m' capacity xs' ys' q r → Stopped f m capacity xs' ys' q r
-  stopped_as {f} {m} {m'} {capacity} {xs'} {ys'} {q} {r} h s = subst (λ z. Stopped f z capacity xs' ys' q r) (sym h) s
+  pub stopped_as : {f m m' : Inside K S} {capacity : ℕ} {xs' ys' : List (Entry K S)} {q : Places} {r : Result (Unit {0}) (PendingError K E)} → m ≡ m' → PassStop f m' capacity xs' ys' q r → PassStop f m capacity xs' ys' q r
+  stopped_as {f} {m} {m'} {capacity} {xs'} {ys'} {q} {r} h s = subst (λ z. PassStop f z capacity xs' ys' q r) (sym h) s
 
   -- in the memory f of the cache v, a pass from `from` on stopped in the memory m with the result `out`
   module _ (f m : Inside K S) {v : Cache K S} {from capacity : ℕ} {xs' ys' : List (Entry K S)} {q : Places} {out res : Result (Unit {0}) (PendingError K E)}
@@ -74,8 +74,8 @@ module _ {K S Q A E W : Type 0} (keys : Sameness K) (ends : Endpoints S Q A E W)
       (bound : capacity ≡ v.capacity)
       (begins : from ≡ min f.resume f.pending_count)
       (was : out ≡ res)
-      (came : Came keys ends now (take capacity f.ready.now) (take f.pending_count f.pending.now) xs' ys' (start f.ready_count from) q out)
-      (stop : Stopped f m capacity xs' ys' q out) where
+      (came : PassSoFar keys ends now (take capacity f.ready.now) (take f.pending_count f.pending.now) xs' ys' (start f.ready_count from) q out)
+      (stop : PassStop f m capacity xs' ys' q out) where
     abbrev xs : List (Entry K S)
     xs = f.ready.now
 
@@ -91,13 +91,13 @@ module _ {K S Q A E W : Type 0} (keys : Sameness K) (ends : Endpoints S Q A E W)
     abbrev resume : ℕ
     resume = f.resume
 
-    over : Came keys ends now (take capacity xs) (take n ys) xs' ys' (start r from) q res
+    over : PassSoFar keys ends now (take capacity xs) (take n ys) xs' ys' (start r from) q res
     over = came_as keys ends now was came
 
     bound_is : capacity ≡ capacity_of (length xs) (length ys)
     bound_is = bound ∙ ap (λ (c : Cache K S). c.capacity) (sym shows)
 
-    abbrev close : Ended K S E
+    abbrev close : PassEnd K S E
     close = record { ready = take q.ready xs'; kept = take q.write ys'; rest = drop q.read ys'; fault = fault_of res }
 
     wide : length (take capacity xs) ≡ capacity
@@ -132,7 +132,7 @@ module _ {K S Q A E W : Type 0} (keys : Sameness K) (ends : Endpoints S Q A E W)
     abbrev left : ℕ
     left = q.write + (n - q.read)
 
-    poll_after : (zs : List (Entry K S)) (resume' : ℕ) → length zs ≡ length m.pending.now → zs ≡ copy_within m.pending.now q.read n q.write → resume' ≡ by_some (fault_of res) 0 (λ _. q.write) → seen m.ready.now zs q.ready left m.next_serial resume' ≡ (poll_pending keys ends now v).after
+    poll_after : (zs : List (Entry K S)) (resume' : ℕ) → length zs ≡ length m.pending.now → zs ≡ copy_within m.pending.now q.read n q.write → resume' ≡ map_or (fault_of res) 0 (λ _. q.write) → seen m.ready.now zs q.ready left m.next_serial resume' ≡ (poll_pending keys ends now v).after
     poll_after zs resume' lz ez hr =
         let w = over.went in
         let lx : length ready_memory ≡ length xs = length-append xs' (drop capacity xs) ∙ ap₂ (λ a b. a + b) (w.ready_long ∙ wide) (length-drop capacity xs) ∙ omega (arith, bound_is) in
@@ -142,7 +142,7 @@ module _ {K S Q A E W : Type 0} (keys : Sameness K) (ends : Endpoints S Q A E W)
         let kept : length (take q.write ys') ≡ q.write = length-take-le q.write ys' kept_long in
         let told : seen ready_memory zs q.ready left f.next_serial resume' ≡ (poll_pending keys ends now (shown f)).after =
         rw (lx, ly, front, back)
-        (ap (λ z. record { ready = take q.ready xs'; pending = take q.write ys' ++ drop q.read ys'; next = f.next_serial; resume = z; capacity = capacity_of (length xs) (length ys) }) (hr ∙ ap (λ z. by_some (fault_of res) 0 (λ _. z)) (sym kept))
+        (ap (λ z. record { ready = take q.ready xs'; pending = take q.write ys' ++ drop q.read ys'; next = f.next_serial; resume = z; capacity = capacity_of (length xs) (length ys) }) (hr ∙ ap (λ z. map_or (fault_of res) 0 (λ _. z)) (sym kept))
         ∙ ap (after_of f.next_serial (capacity_of (length xs) (length ys))) (sym is)) in
         ap₂ (λ a b. seen a zs q.ready left b resume') stop.ready stop.next ∙ told ∙ ap (λ (c : Cache K S). (poll_pending keys ends now c).after) shows
 
@@ -150,5 +150,5 @@ module _ {K S Q A E W : Type 0} (keys : Sameness K) (ends : Endpoints S Q A E W)
     pub poll_told :
         (q.write ≤ length ys')
         × (answer_of close ≡ (poll_pending keys ends now v).answer)
-        × ((zs : List (Entry K S)) (resume' : ℕ) → length zs ≡ length m.pending.now → zs ≡ copy_within m.pending.now q.read n q.write → resume' ≡ by_some (fault_of res) 0 (λ _. q.write) → seen m.ready.now zs q.ready left m.next_serial resume' ≡ (poll_pending keys ends now v).after)
+        × ((zs : List (Entry K S)) (resume' : ℕ) → length zs ≡ length m.pending.now → zs ≡ copy_within m.pending.now q.read n q.write → resume' ≡ map_or (fault_of res) 0 (λ _. q.write) → seen m.ready.now zs q.ready left m.next_serial resume' ≡ (poll_pending keys ends now v).after)
     poll_told = (kept_long, poll_answer, poll_after)

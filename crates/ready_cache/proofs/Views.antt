@@ -1,11 +1,9 @@
 -- What the memory behind a cache shows after one of its lists was written.
-use Rattle.std.proofs.Common.{◌≡◌, ℕ, ◌≤◌, List, ◌++◌, length, take, drop, set, ◌+◌, Some, None, Option, refl, ap, ◌∙◌, arith}
-use Rattle.std.proofs.lemmas.List.{length-take-le, length-set, length-append, length-drop, take_at}
-use Rattle.model.specs.Options.{by_some}
-use Rattle.lists.proofs.Places.{put_back}
+use Rattle.std.proofs.Common.{◌≡◌, ℕ, ◌≤◌, List, ◌++◌, length, take, drop, ◌+◌, refl, ap, ◌∙◌, arith}
+use Rattle.std.proofs.lemmas.List.{length-take-le, length-append, length-drop, take_at}
 use Rattle.cache_model.specs.declared.entry.Entry.{Entry}
 use Rattle.cache_model.specs.Cache.{Cache, capacity_of, with_lists}
-use Rattle.ready_cache.specs.declared.cache.ReadyCache.TheInside.{Inside}
+use Rattle.ready_cache.specs.declared.ready_cache.ReadyCache.TheInside.{Inside}
 
 module _ {K S : Type 0} where
   -- the first r of xs are ready, and the first p of ys pending
@@ -24,10 +22,6 @@ module _ {K S : Type 0} where
 
   same_front : (xs zs : List (Entry K S)) (n : ℕ) → length zs ≡ length (take n xs) → n ≤ length xs → take n (zs ++ drop n xs) ≡ zs
   same_front xs zs n e h = take_at zs (drop n xs) n (e ∙ length-take-le n xs h)
-
-  -- the cache c with the entry at i, if it is there, written as w of it
-  abbrev pub wrote : Cache K S → ℕ → (Entry K S → Entry K S) → Option (Entry K S) → Cache K S
-  wrote c i w o = by_some o c (λ e. with_lists c (set c.ready i (w e)) c.pending)
 
 module _ {K S : Type 0} (f : Inside K S) where
   -- what the memory f shows
@@ -54,10 +48,5 @@ module _ {K S : Type 0} (f : Inside K S) where
         rw (same_length f.ready.now zs f.ready_count e ready_fits, same_length f.pending.now ws f.pending_count h pending_fits, same_front f.ready.now zs f.ready_count e ready_fits, same_front f.pending.now ws f.pending_count h pending_fits) refl
 
     -- the ready list was written as zs
-    ready_rewritten : (zs : List (Entry K S)) → length zs ≡ length shown.ready → shown_with zs ≡ with_lists shown zs shown.pending
+    pub ready_rewritten : (zs : List (Entry K S)) → length zs ≡ length shown.ready → shown_with zs ≡ with_lists shown zs shown.pending
     ready_rewritten zs e = rw (same_length f.ready.now zs f.ready_count e ready_fits, same_front f.ready.now zs f.ready_count e ready_fits) refl
-
-    pub wrote_seen : (i : ℕ) (w : Entry K S → Entry K S) (o : Option (Entry K S)) (zs : List (Entry K S)) → zs ≡ by_some o shown.ready (λ e. set shown.ready i (w e)) → shown_with zs ≡ wrote shown i w o
-    wrote_seen i w None zs e = ap (λ ws. seen ws f.pending.now f.ready_count f.pending_count f.next_serial f.resume) (put_back f.ready.now zs f.ready_count e)
-    wrote_seen i w (Some x) zs e =
-        ready_rewritten zs (ap length e ∙ length-set shown.ready i (w x)) ∙ ap (λ ws. with_lists shown ws shown.pending) e

@@ -1,8 +1,10 @@
-// How far a pass has come: how many are ready, the place to ask next, and the place of the next one that stays.
-// Numbers, since a fault ends a pass between two places of a list that is rewritten as it is read. (That `write` is not past `read` stands in what `turn` requires: a model whose value is the same record again would be longer.)
+// How far a pass over the pending entries has come.
 #[derive(Clone, Copy)]
 pub struct Places {
+    // how many entries are ready
     pub ready: usize,
+    // the place of the pending entry that is asked next
     pub read: usize,
+    // the place for the next one that stays, never past `read`
     pub write: usize,
 }

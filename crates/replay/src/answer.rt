@@ -1,24 +1,27 @@
-// What a pick answers, and how it and the lists of a cache are printed. Refusals are printed by their numbers: the format of a run has them.
+// What a pick answers, and how it and the lists of a cache are printed. A refusal is printed by its number.
 use crate::kinds::Worker;
-use balance_model::answer::{Completion, PollError, Polled};
-use balance_model::pick;
-use cache_model::entry::Entry;
-use cache_model::error::{Failed, PendingError, PushError};
-use keys::name::Name;
-use service::poll::Poll;
+use balance_model::{Answer as BalancerAnswer, Completion, PollError, Polled};
+use cache_model::{Entry, Failed, PendingError, PushError};
+use keys::Name;
+use service::Poll;
 use std::fmt;
 
-// What a pick of the balancer or of its cache answered; a pass has also the place where the next one starts.
+/// What a pick of the balancer or of its cache answers.
 #[derive(Clone, Copy)]
 pub enum Answer<E> {
-    Balancer(pick::Answer<Name, u64, u32>),
-    Pushed(Result<u64, PushError<Name>>),
-    Evicted(bool),
-    Passed(Result<Poll<()>, PendingError<Name, E>>, usize),
-    Checked(Result<bool, Failed<Name, E>>),
+    /// Of a pick of the balancer, or of a request that was sent through the cache.
+    Balancer(BalancerAnswer<Name, u64, u32>),
+    /// Of a push: the serial.
+    Push(Result<u64, PushError<Name>>),
+    /// Of an eviction: whether the key had a worker.
+    Evict(bool),
+    /// Of a pass: what it came to, and the place where the next one starts.
+    Pass(Result<Poll<()>, PendingError<Name, E>>, usize),
+    /// Of a check: whether the worker is ready.
+    Check(Result<bool, Failed<Name, E>>),
 }
 
-// What ended a poll: its number, and the feed's error or the key. (A function, as the two below: the types are of other crates, and `Display` cannot stand here for them.)
+// What ended a poll: its number, and the feed's error or the key.
 fn write_fault<W: fmt::Write>(
     error: &PollError<Name, u32>,
     f: &mut fmt::Formatter<W>,
@@ -32,20 +35,20 @@ fn write_fault<W: fmt::Write>(
 
 // What the balancer answered.
 fn write_answer<W: fmt::Write>(
-    answer: &pick::Answer<Name, u64, u32>,
+    answer: &BalancerAnswer<Name, u64, u32>,
     f: &mut fmt::Formatter<W>,
 ) -> fmt::Result {
     match answer {
-        pick::Answer::Polled(Ok(Polled { worker, lost })) => match worker {
+        BalancerAnswer::Polled(Ok(Polled { worker, lost })) => match worker {
             Poll::Ready(serial) => write!(f, "ready {serial} {lost}"),
             Poll::Pending => write!(f, "pending {lost}"),
         },
-        pick::Answer::Polled(Err(error)) => write_fault(error, f),
-        pick::Answer::Called(Ok((ticket, response))) => write!(f, "sent {ticket} {response}"),
-        pick::Answer::Called(Err(error)) => write!(f, "no {}", error.number()),
-        pick::Answer::Completed(Ok(Completion::Held)) => write!(f, "held"),
-        pick::Answer::Completed(Ok(Completion::Gone)) => write!(f, "gone"),
-        pick::Answer::Completed(Err(error)) => write!(f, "no {}", error.number()),
+        BalancerAnswer::Polled(Err(error)) => write_fault(error, f),
+        BalancerAnswer::Called(Ok((ticket, response))) => write!(f, "sent {ticket} {response}"),
+        BalancerAnswer::Called(Err(error)) => write!(f, "no {}", error.number()),
+        BalancerAnswer::Completed(Ok(Completion::Held)) => write!(f, "held"),
+        BalancerAnswer::Completed(Ok(Completion::Gone)) => write!(f, "gone"),
+        BalancerAnswer::Completed(Err(error)) => write!(f, "no {}", error.number()),
     }
 }
 
@@ -65,22 +68,23 @@ impl<E: fmt::Display + Copy> fmt::Display for Answer<E> {
     fn fmt<W: fmt::Write>(&self, f: &mut fmt::Formatter<W>) -> fmt::Result {
         match self {
             Answer::Balancer(answer) => write_answer(answer, f),
-            Answer::Pushed(Ok(serial)) => write!(f, "pushed {serial}"),
-            Answer::Pushed(Err(error)) => write_fault(&PollError::from(*error), f),
-            Answer::Evicted(found) => write!(f, "{found}"),
-            Answer::Passed(Ok(Poll::Ready(())), resume) => write!(f, "ready {resume}"),
-            Answer::Passed(Ok(Poll::Pending), resume) => write!(f, "pending {resume}"),
-            Answer::Passed(Err(error), resume) => {
+            Answer::Push(Ok(serial)) => write!(f, "pushed {serial}"),
+            Answer::Push(Err(error)) => write_fault(&PollError::from(*error), f),
+            Answer::Evict(found) => write!(f, "{found}"),
+            Answer::Pass(Ok(Poll::Ready(())), resume) => write!(f, "ready {resume}"),
+            Answer::Pass(Ok(Poll::Pending), resume) => write!(f, "pending {resume}"),
+            Answer::Pass(Err(error), resume) => {
                 write_pending(error, f)?;
                 write!(f, " {resume}")
             }
-            Answer::Checked(Ok(ready)) => write!(f, "{ready}"),
-            Answer::Checked(Err(failed)) => write_pending(&PendingError::from(*failed), f),
+            Answer::Check(Ok(ready)) => write!(f, "{ready}"),
+            Answer::Check(Err(failed)) => write_pending(&PendingError::from(*failed), f),
         }
     }
 }
 
-// The entries of a list: key, serial, mark, count and estimate.
+/// A list of a cache, to be printed: of each entry its key, serial, mark and count, and the bits of its estimate and
+/// the instant of the last update where it has one.
 #[derive(Clone, Copy)]
 pub struct List<'a, S>(pub &'a [Entry<Name, S>]);
 

@@ -1,21 +1,16 @@
 // How the workers of a run are made, called and looked at.
 use anyhow::Context;
-use decay::Decay;
-use ewma::rtt_estimate::RttEstimate;
-use load::pending_requests::PendingRequests;
-use peak_ewma::peak_ewma::PeakEwma;
-use peak_ewma::settings::Settings;
-use service::refusal::Invalid;
-use service::{Endpoint, Service};
+use load::{Decay, PeakEwma, PendingRequests, RttEstimate, Settings};
+use service::{Endpoint, Invalid, Service};
 use std::fmt::Display;
-use workers::paced::Paced;
-use workers::patterned::Patterned;
+use workers::{Paced, Patterned};
 
-// A bare service of a run: its responses are numbers, and its failures are printed.
+/// A bare service of a run: its responses are numbers, and its failures are printed.
 pub trait Bare: Service<Response = u64, Error: Display> {
-    // The service that an insert with this pattern makes; a paced one has no pattern.
+    /// The service that comes with this pattern; a paced one does not look at it.
     fn with(&self, pattern: Patterned) -> Self;
 
+    /// The request that a pick's number says.
     fn request(number: u64) -> Self::Request;
 }
 
@@ -24,7 +19,7 @@ impl Bare for Patterned {
         pattern
     }
 
-    // a request is the low 32 bits of the number: `try_from` would refuse a larger one
+    // the low 32 bits of the number
     fn request(number: u64) -> u32 {
         (number % 4_294_967_296) as u32
     }
@@ -40,11 +35,12 @@ impl Bare for Paced {
     }
 }
 
-// A worker of a run; it takes the requests of its bare service. (Either measure says so in one line: a trait cannot say it of both without naming the service.)
+/// A worker of a run, which takes the requests of its bare service.
 pub trait Worker: Endpoint<Response = u64, Error: Display> {
+    /// The request that a pick's number says.
     fn request(number: u64) -> Self::Request;
 
-    // The estimate of response time, if it is weighed by that.
+    /// The estimate of response time, if it is weighed by that.
     fn rtt_estimate(&self) -> Option<RttEstimate>;
 }
 
@@ -68,20 +64,21 @@ impl<B: Bare, D: Decay> Worker for PeakEwma<B, D> {
     }
 }
 
-// (In this program's own words, which are the same for every value: see `name` in read.rt.)
-pub fn made<T>(made: Result<T, Invalid>) -> anyhow::Result<T> {
-    made.ok().context("a value is not made")
+/// The value, or an error where it is not allowed.
+pub fn valid<T>(value: Result<T, Invalid>) -> anyhow::Result<T> {
+    value.ok().context("a value is not made")
 }
 
-// How the workers of a run are made that are pushed into its cache.
+/// How the workers are made that a run pushes into its cache.
 pub trait MakeWorker: Copy {
+    /// The worker, a bare service with its load measure.
     type Worker: Worker;
 
-    // A worker with a pattern, made at an instant.
+    /// A worker with a pattern, made at an instant in nanoseconds.
     fn make_worker(&self, pattern: Patterned, at: u64) -> anyhow::Result<Self::Worker>;
 }
 
-// Makes workers that are weighed by requests out.
+/// Makes workers that are weighed by requests out.
 #[derive(Clone, Copy)]
 pub struct PendingRequestsMaker<B> {
     pub bare: B,
@@ -95,7 +92,7 @@ impl<B: Bare> MakeWorker for PendingRequestsMaker<B> {
     }
 }
 
-// Makes workers that are weighed by response time.
+/// Makes workers that are weighed by response time.
 #[derive(Clone, Copy)]
 pub struct PeakEwmaMaker<B, D> {
     pub bare: B,
@@ -106,6 +103,6 @@ impl<B: Bare, D: Decay> MakeWorker for PeakEwmaMaker<B, D> {
     type Worker = PeakEwma<B, D>;
 
     fn make_worker(&self, pattern: Patterned, at: u64) -> anyhow::Result<PeakEwma<B, D>> {
-        made(PeakEwma::new(self.bare.with(pattern), self.settings, at))
+        valid(PeakEwma::new(self.bare.with(pattern), self.settings, at))
     }
 }

@@ -1,2 +1,4 @@
 mod Samples
 mod Nth
+pub mod Floyd
+pub mod Shares

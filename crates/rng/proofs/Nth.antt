@@ -26,8 +26,8 @@ module _ (ws : Bor (List ℕ)) where
   source_at i = record { words = ws; next = i }
 
   -- one place on, cyclically
-  turned : (i k : ℕ) → i < n → (next_place ws.now i + k) % n ≡ (i + suc k) % n
-  turned i k h = go (cases_lt (i + 1) n)
+  next_place_after : (i k : ℕ) → i < n → (next_place ws.now i + k) % n ≡ (i + suc k) % n
+  next_place_after i k h = go (cases_lt (i + 1) n)
     where
       go : (i + 1 < n) ⊎ (n ≤ i + 1) → (next_place ws.now i + k) % n ≡ (i + suc k) % n
       go (inl l) = rw (lt-ltb (i + 1) n l) (ap (λ (m : ℕ). m % n) (omega arith))
@@ -40,7 +40,7 @@ module _ (ws : Bor (List ℕ)) where
 
   list_from : (k i : ℕ) → i < n → nth_word list_words (source_at i) k ≡ get_or ws.now ((i + k) % n) 0
   list_from zero i h = let e : (i + 0) % n ≡ i = ap (λ (m : ℕ). m % n) (omega arith) ∙ mod-eq_of_lt h in ap (λ m. get_or ws.now m 0) (sym e)
-  list_from (suc k) i h = list_from k (next_place ws.now i) (next_below i h) ∙ ap (λ m. get_or ws.now m 0) (turned i k h)
+  list_from (suc k) i h = list_from k (next_place ws.now i) (next_below i h) ∙ ap (λ m. get_or ws.now m 0) (next_place_after i k h)
 
   -- no words
   list_none : (k i : ℕ) → n ≡ 0 → nth_word list_words (source_at i) k ≡ 0

@@ -1,9 +1,10 @@
 -- What Floyd's algorithm says of a sample.
 use Rattle.std.proofs.Common.{◌≡◌, ℕ, ◌-◌, ◌%◌, ◌≤◌, false, ltb, List, [], ◌∷◌, get_or, sym, subst, mod-lt, arith}
 use Rattle.std.proofs.lemmas.Bool.{le-ltb}
-use Rattle.sampling.specs.Pairs.{places, TwoBelow}
-use Rattle.sampling.specs.Floyd.{floyd, SameSet}
-use Rattle.sampling.proofs.Floyd.{floyd_two, two_below}
+use Rattle.rng.specs.Pairs.{places, TwoBelow}
+use Rattle.rng.specs.Floyd.{floyd, SameSet}
+use Rattle.rng.proofs.Floyd.{floyd_two, two_below}
+use Rattle.rng.proofs.Shares.{fair_shares}
 use Rattle.rng.specs.Words.{Words, nth_word, remainders, sample}
 
 module _ {R : Type 0} (source : Words R) (r : R) (n : ℕ) (xs : List ℕ) (is : xs ≡ (sample source r n).answer) where
@@ -21,3 +22,6 @@ module _ {R : Type 0} (source : Words R) (r : R) (n : ℕ) (xs : List ℕ) (is :
 
   pub different : 2 ≤ n → TwoBelow n (get_or xs 0 0) (get_or xs 1 0)
   different h = subst (λ (zs : List ℕ). TwoBelow n (get_or zs 0 0) (get_or zs 1 0)) (sym (xs_is h)) (two_below n first second (mod-lt _ (omega arith)) (mod-lt _ (omega arith)))
+
+-- what the proof of `sample_floyd2` takes
+pub ruleset two_places = (of_floyd, different, fair_shares)

@@ -1,4 +1,4 @@
-pub mod Numbers
+pub mod Answers
 pub mod Meaning
-pub mod Kinds
+pub mod ByNumber
 pub mod Uses

@@ -1,4 +1,22 @@
-// Published and worked values: each line on standard input asks for one, and the answer is printed beside it.
+//! Runs published and worked values of hashing, words, samples, decays and estimates.
+//!
+//! Each line on standard input asks for one value, and is printed again with the answer behind it. `stdin` holds the
+//! questions and `stdout` what has to come out: test vectors that were published for FNV-1a, and values that were
+//! worked out in exact fractions.
+//!
+//! ```text
+//! fnv TEXT                             FNV-1a of the text, or of no bytes where there is none
+//! word PLACE                           the word number PLACE of a `HasherRng`, counted from 0
+//! range START END WORD                 the number that the word gives in the range
+//! sample LENGTH FIRST SECOND           the sample of two that the two words give
+//! nanos NUMBER                         the nanoseconds as a float
+//! halving ELAPSED PERIOD               the share that the decay keeps; squaring likewise
+//! halved DEFAULT PERIOD SENT AT        the estimate after one response, from DEFAULT at the instant 0;
+//!                                      squared likewise
+//! ```
+//!
+//! Hashes, words, floats and estimates are printed as 64 bits in hexadecimal, the other numbers in decimal. A line that
+//! asks for none of these ends the program with an error.
 #![tactic(auto)]
 
 ghost use Rattle.std.specs.Prelude.{◌≡◌};
@@ -6,20 +24,13 @@ ghost use Rattle.rng.specs.Fnv.{fnv_1a};
 ghost use Rattle.rng.specs.Sources.{bytes_of};
 
 use anyhow::{anyhow, bail};
-use decay::Decay;
-use decay::halving::Halving;
-use decay::squaring::Squaring;
-use ewma::estimates::nanos;
-use ewma::rtt_estimate::RttEstimate;
-use rng::fnv::fnv1a;
-use rng::hasher_rng::HasherRng;
-use rng::list_rng::ListRng;
-use rng::{Rng, sample_floyd2};
+use load::{Decay, Halving, RttEstimate, Squaring, nanos};
+use rng::{HasherRng, ListRng, Rng, fnv1a, sample_floyd2};
 use std::alloc::Global;
 use std::io::{BufRead, BufReader};
 use std::num::f64_to_bits_with_nan;
 
-// A number of 64 bits in hexadecimal.
+// 64 bits in hexadecimal.
 fn hex(heap: Global, bits: u64) -> anyhow::Result<String> {
     Ok(format!(in heap; "{bits:016x}")?)
 }
@@ -34,7 +45,7 @@ fn share<D: Decay>(decay: D, words: &[&str]) -> anyhow::Result<u64> {
     Ok(f64_to_bits_with_nan(decay.decay(-elapsed / period)))
 }
 
-// The estimate that starts as a default at the instant 0, after a response.
+// The estimate that starts as a default at the instant 0, after one response.
 fn estimate<D: Decay>(decay: D, words: &[&str]) -> anyhow::Result<u64> {
     let [default_rtt, period, sent, at, ..] = words else {
         bail!("a line is too short");
@@ -82,7 +93,6 @@ fn answer(heap: Global, words: &[&str]) -> anyhow::Result<String> {
             Ok(format!(in heap; "{a} {b}")?)
         }
         ["nanos", number, ..] => hex(heap, f64_to_bits_with_nan(nanos(number.parse()?))),
-        // two of each, since the text chooses between two types
         ["halving", words @ ..] => hex(heap, share(Halving, words)?),
         ["squaring", words @ ..] => hex(heap, share(Squaring, words)?),
         ["halved", words @ ..] => hex(heap, estimate(Halving, words)?),

@@ -1,3 +1,4 @@
 pub mod Estimates
+pub mod TwoPolls
 pub mod Removal
 pub mod Cases

@@ -1,18 +1,32 @@
-// Worked cases in one table: what real calls come to.
+//! Worked cases in one table: what real calls come to, in numbers that can be worked out by hand.
+//!
+//! [`worked_cases`] makes the calls, and its contract names every value of the table: two samples of two places, which
+//! of three places wins by each remainder pair, nanoseconds that are rounded, a weight and an estimate by response
+//! time, a cache with room for one worker, and a selected worker that is removed.
+//!
+//! ```text
+//! let table = worked_cases()?;
+//! table.equal_remainders.places       // [4, 3]: of five places, by the words 3 and 8
+//! table.estimate_at_two_seconds       // 550000000.0: a quarter of 1 s and three quarters of 0.4 s
+//! table.removal.polls.second_place    // Some(1): the place of the worker that takes over
+//! ```
 #![tactic(auto)]
 
 ghost use Rattle.std.specs.Prelude.{IsOkAnd};
-ghost use Rattle.worked_cases.specs.Cases.{AsWorked};
+ghost use Rattle.worked_cases.specs.Cases.{IsWorkedTable};
 
 mod capacity;
 mod estimates;
 mod removal;
-mod samples;
+mod sample;
+mod two_polls;
+mod winners;
 
-use cache_model::error::PushError;
-use removal::Removed;
-use samples::Sample;
-use service::refusal::Invalid;
+use cache_model::PushError;
+pub use removal::Removal;
+pub use sample::Sample;
+use service::Invalid;
+pub use two_polls::TwoPolls;
 
 /// What the worked cases come to.
 #[derive(Drop)]
@@ -24,40 +38,40 @@ pub struct WorkedCases {
     /// The place that wins by each remainder pair (0 and 0, 0 and 1, up to 1 and 2), of places that weigh 3, 3 and 5.
     pub winners: [u64; 6],
     /// 2^53 + 1 nanoseconds.
-    pub rounded: f64,
-    /// The weight with three requests out, read at two seconds.
-    pub weight_read: f64,
-    /// The estimate after a request that was sent at 1.6 seconds and completed at two.
-    pub completed: f64,
-    /// What a cache of one place answers to a push.
-    pub one_place_left: Result<u64, PushError<u32>>,
+    pub rounded_nanos: f64,
+    /// The weight in nanoseconds with three requests out, read at two seconds.
+    pub weight_at_two_seconds: f64,
+    /// The estimate in nanoseconds after a request that was sent at 1.6 seconds and completed at two.
+    pub estimate_at_two_seconds: f64,
+    /// What a cache with room for one worker answers to a push.
+    pub first_push: Result<u64, PushError<u32>>,
     /// What it answers to the next.
-    pub full: Result<u64, PushError<u32>>,
+    pub second_push: Result<u64, PushError<u32>>,
     /// The number of that refusal.
-    pub full_number: Option<u8>,
+    pub refusal_number: Option<u8>,
     /// The key of the worker that was refused.
-    pub full_key: Option<u32>,
+    pub refusal_key: Option<u32>,
     /// What a poll leaves in which the selected worker is removed.
-    pub removed: Removed,
+    pub removal: Removal,
 }
 
-/// Every worked case, computed.
-#[tactic(auto, using(crate::proofs::Computed::rounded, crate::proofs::Computed::weight_is, crate::proofs::Computed::completed_is))]
+/// Every worked case. There is no error, since each duration that the endpoints are made with is above 0.
+#[tactic(auto, using(crate::proofs::Computed::rounded_is, crate::proofs::Computed::weight_is, crate::proofs::Computed::estimate_is))]
 pub fn worked_cases() -> Result<WorkedCases, Invalid>
-    ensures { IsOkAnd result AsWorked }
+    ensures { IsOkAnd result IsWorkedTable }
 {
-    let (one_place_left, full) = capacity::pushed();
+    let (first_push, second_push) = capacity::two_pushes();
     Ok(WorkedCases {
-        different_remainders: samples::two_of_five(7, 9),
-        equal_remainders: samples::two_of_five(3, 8),
-        winners: samples::winners(),
-        rounded: estimates::rounded(),
-        weight_read: estimates::weight_read()?,
-        completed: estimates::completed()?,
-        one_place_left,
-        full,
-        full_number: full.err().map(|refusal| refusal.number()),
-        full_key: full.err().map(|refusal| refusal.key()),
-        removed: removal::removal(),
+        different_remainders: Sample::of_five(7, 9),
+        equal_remainders: Sample::of_five(3, 8),
+        winners: winners::winners(),
+        rounded_nanos: estimates::rounded_nanos(),
+        weight_at_two_seconds: estimates::weight_at_two_seconds()?,
+        estimate_at_two_seconds: estimates::estimate_at_two_seconds()?,
+        first_push,
+        second_push,
+        refusal_number: second_push.err().map(|refusal| refusal.number()),
+        refusal_key: second_push.err().map(|refusal| refusal.key()),
+        removal: Removal::new(),
     })
 }

@@ -1,4 +1,4 @@
-use Rattle.sampling.proofs.Shares.{one_pair_each}
+use Rattle.rng.proofs.Shares.{one_pair_each}
 use Rattle.rng.proofs.sample_floyd2.Goals as goal
 
 pub returns-then-a-b-clause-pairs : goal.returns-then-a-b-clause-pairs

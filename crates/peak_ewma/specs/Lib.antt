@@ -1,3 +1,0 @@
-pub mod Durations
-pub mod Endpoint
-pub mod Feed

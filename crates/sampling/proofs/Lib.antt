@@ -1,2 +1,0 @@
-pub mod Shares
-pub mod Floyd
