@@ -3,7 +3,7 @@ ghost use Rattle.cycles.specs.Repeated.{GivesRounds, repeated_feeds};
 
 use discover::{Discover, Discovered, ListFeed};
 
-// A feed that goes on with the same round, over and over: what is left of this one, and the round from its start.
+/// A feed that goes on with the same round, over and over: what is left of this one, and the round from its start.
 #[derive(Clone, Copy)]
 pub struct Repeated<D> {
     round: D,

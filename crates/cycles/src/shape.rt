@@ -11,17 +11,19 @@ use workers::{Answer, Patterned};
 // Answers of the feed.
 pub(crate) type Answers<S> = Vec<Discovered<u32, S, u32>>;
 
-// The numbers of a run.
+/// The numbers of a run.
 #[derive(Clone, Copy)]
-pub(crate) struct Shape {
-    pub(crate) workers: u32,
-    // the workers whose keys it divides are never ready
-    pub(crate) unready: Option<NonZeroU32>,
-    // in one of so many cycles a worker leaves and comes back
-    pub(crate) turnover: Option<NonZeroU32>,
-    pub(crate) cycles: u32,
-    // how many requests stay out
-    pub(crate) out: u32,
+pub struct Shape {
+    /// How many workers there are.
+    pub workers: u32,
+    /// The workers whose keys it divides are never ready.
+    pub unready: Option<NonZeroU32>,
+    /// In one of so many cycles a worker leaves and comes back.
+    pub turnover: Option<NonZeroU32>,
+    /// How many cycles there are.
+    pub cycles: u32,
+    /// How many requests stay out.
+    pub out: u32,
 }
 
 impl Shape {

@@ -71,20 +71,28 @@ module _ {A : Type 0} where
     past_one : (y : A) (ys : List A) (k : ℕ) → p y ≡ false → position_from p k (y ∷ ys) ≡ position_from p (k + 1) ys
     past_one y ys k e = ap (λ b. cond b (Some k) (position_from p (k + 1) ys)) e
 
-    -- ys is what is left of xs, and its first four do not pass
-    pub past_four : (xs ys : List A) (a b c d : A) → 4 ≤ length ys → length ys ≤ length xs → a ≡ get_or ys 0 a → b ≡ get_or ys 1 b → c ≡ get_or ys 2 c → d ≡ get_or ys 3 d → p a ≡ false → p b ≡ false → p c ≡ false → p d ≡ false → position_from p (length xs - length ys) ys ≡ position_from p (length xs - length (take (length ys - 4) (drop 4 ys))) (take (length ys - 4) (drop 4 ys))
-    past_four xs [] a b c d l w ra rb rc rd fa fb fc fd = absurd (omega (arith, l))
-    past_four xs (_ ∷ []) a b c d l w ra rb rc rd fa fb fc fd = absurd (omega (arith, l))
-    past_four xs (_ ∷ _ ∷ []) a b c d l w ra rb rc rd fa fb fc fd = absurd (omega (arith, l))
-    past_four xs (_ ∷ _ ∷ _ ∷ []) a b c d l w ra rb rc rd fa fb fc fd = absurd (omega (arith, l))
-    past_four xs (s ∷ t ∷ u ∷ v ∷ ys) a b c d l w ra rb rc rd fa fb fc fd =
-        let k = length xs - length (s ∷ t ∷ u ∷ v ∷ ys) in
-        let whole : take (length (s ∷ t ∷ u ∷ v ∷ ys) - 4) ys ≡ ys = take_all _ ys (omega arith) in
-        let next : k + 1 + 1 + 1 + 1 ≡ length xs - length ys = omega (arith, w) in
-        past_one s (t ∷ u ∷ v ∷ ys) k (ap p (sym ra) ∙ fa)
-        ∙ past_one t (u ∷ v ∷ ys) (k + 1) (ap p (sym rb) ∙ fb)
-        ∙ past_one u (v ∷ ys) (k + 1 + 1) (ap p (sym rc) ∙ fc)
-        ∙ past_one v ys (k + 1 + 1 + 1) (ap p (sym rd) ∙ fd)
+    -- ys is what is left of xs, and its first eight do not pass
+    pub past_eight : (xs ys : List A) (a b c d e f g h : A) → 8 ≤ length ys → length ys ≤ length xs → a ≡ get_or ys 0 a → b ≡ get_or ys 1 b → c ≡ get_or ys 2 c → d ≡ get_or ys 3 d → e ≡ get_or ys 4 e → f ≡ get_or ys 5 f → g ≡ get_or ys 6 g → h ≡ get_or ys 7 h → p a ≡ false → p b ≡ false → p c ≡ false → p d ≡ false → p e ≡ false → p f ≡ false → p g ≡ false → p h ≡ false → position_from p (length xs - length ys) ys ≡ position_from p (length xs - length (take (length ys - 8) (drop 8 ys))) (take (length ys - 8) (drop 8 ys))
+    past_eight xs [] a b c d e f g h l w ra rb rc rd re rf rg rh fa fb fc fd fe ff fg fh = absurd (omega (arith, l))
+    past_eight xs (_ ∷ []) a b c d e f g h l w ra rb rc rd re rf rg rh fa fb fc fd fe ff fg fh = absurd (omega (arith, l))
+    past_eight xs (_ ∷ _ ∷ []) a b c d e f g h l w ra rb rc rd re rf rg rh fa fb fc fd fe ff fg fh = absurd (omega (arith, l))
+    past_eight xs (_ ∷ _ ∷ _ ∷ []) a b c d e f g h l w ra rb rc rd re rf rg rh fa fb fc fd fe ff fg fh = absurd (omega (arith, l))
+    past_eight xs (_ ∷ _ ∷ _ ∷ _ ∷ []) a b c d e f g h l w ra rb rc rd re rf rg rh fa fb fc fd fe ff fg fh = absurd (omega (arith, l))
+    past_eight xs (_ ∷ _ ∷ _ ∷ _ ∷ _ ∷ []) a b c d e f g h l w ra rb rc rd re rf rg rh fa fb fc fd fe ff fg fh = absurd (omega (arith, l))
+    past_eight xs (_ ∷ _ ∷ _ ∷ _ ∷ _ ∷ _ ∷ []) a b c d e f g h l w ra rb rc rd re rf rg rh fa fb fc fd fe ff fg fh = absurd (omega (arith, l))
+    past_eight xs (_ ∷ _ ∷ _ ∷ _ ∷ _ ∷ _ ∷ _ ∷ []) a b c d e f g h l w ra rb rc rd re rf rg rh fa fb fc fd fe ff fg fh = absurd (omega (arith, l))
+    past_eight xs (s1 ∷ s2 ∷ s3 ∷ s4 ∷ s5 ∷ s6 ∷ s7 ∷ s8 ∷ ys) a b c d e f g h l w ra rb rc rd re rf rg rh fa fb fc fd fe ff fg fh =
+        let k = length xs - length (s1 ∷ s2 ∷ s3 ∷ s4 ∷ s5 ∷ s6 ∷ s7 ∷ s8 ∷ ys) in
+        let whole : take (length (s1 ∷ s2 ∷ s3 ∷ s4 ∷ s5 ∷ s6 ∷ s7 ∷ s8 ∷ ys) - 8) ys ≡ ys = take_all _ ys (omega arith) in
+        let next : k + 1 + 1 + 1 + 1 + 1 + 1 + 1 + 1 ≡ length xs - length ys = omega (arith, w) in
+        past_one s1 (s2 ∷ s3 ∷ s4 ∷ s5 ∷ s6 ∷ s7 ∷ s8 ∷ ys) k (ap p (sym ra) ∙ fa)
+        ∙ past_one s2 (s3 ∷ s4 ∷ s5 ∷ s6 ∷ s7 ∷ s8 ∷ ys) (k + 1) (ap p (sym rb) ∙ fb)
+        ∙ past_one s3 (s4 ∷ s5 ∷ s6 ∷ s7 ∷ s8 ∷ ys) (k + 1 + 1) (ap p (sym rc) ∙ fc)
+        ∙ past_one s4 (s5 ∷ s6 ∷ s7 ∷ s8 ∷ ys) (k + 1 + 1 + 1) (ap p (sym rd) ∙ fd)
+        ∙ past_one s5 (s6 ∷ s7 ∷ s8 ∷ ys) (k + 1 + 1 + 1 + 1) (ap p (sym re) ∙ fe)
+        ∙ past_one s6 (s7 ∷ s8 ∷ ys) (k + 1 + 1 + 1 + 1 + 1) (ap p (sym rf) ∙ ff)
+        ∙ past_one s7 (s8 ∷ ys) (k + 1 + 1 + 1 + 1 + 1 + 1) (ap p (sym rg) ∙ fg)
+        ∙ past_one s8 ys (k + 1 + 1 + 1 + 1 + 1 + 1 + 1) (ap p (sym rh) ∙ fh)
         ∙ ap (λ n. position_from p n ys) next
         ∙ ap (λ zs. position_from p (length xs - length zs) zs) (sym whole)
 

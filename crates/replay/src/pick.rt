@@ -1,5 +1,5 @@
 // What is picked in a run: calls of the balancer, and of its cache.
-use crate::read::{name, worker};
+use crate::read::Words;
 use anyhow::anyhow;
 use balance_model::Pick as BalancerPick;
 use keys::Name;
@@ -53,71 +53,57 @@ pub enum Pick {
 }
 
 impl Pick {
-    /// The pick that a line's words say.
-    pub fn read(heap: Global, words: &[&str]) -> anyhow::Result<Self> {
-        match words {
-            ["poll", at, ..] => Ok(Pick::Balancer(BalancerPick::Poll { at: at.parse()? })),
-            ["call", at, request, ..] => Ok(Pick::Balancer(BalancerPick::Call {
-                at: at.parse()?,
-                request: request.parse()?,
+    /// The pick that a line says: `kind` is its first word, and `words` are those behind it.
+    pub fn read(heap: Global, kind: &str, words: &mut Words<'_>) -> anyhow::Result<Self> {
+        if kind == "evict" {
+            let key = words.name()?;
+            return Ok(Pick::Cache(CachePick::Evict { key }));
+        }
+        let at = words.number()?;
+        match kind {
+            "poll" => Ok(Pick::Balancer(BalancerPick::Poll { at })),
+            "call" => Ok(Pick::Balancer(BalancerPick::Call {
+                request: words.number()?,
+                at,
             })),
-            ["done", at, ticket, ..] => Ok(Pick::Balancer(BalancerPick::Complete {
-                at: at.parse()?,
-                ticket: ticket.parse()?,
+            "done" => Ok(Pick::Balancer(BalancerPick::Complete {
+                ticket: words.number()?,
+                at,
             })),
-            _ => Ok(Pick::Cache(CachePick::read(heap, words)?)),
+            _ => Ok(Pick::Cache(CachePick::read(heap, kind, at, words)?)),
         }
     }
 }
 
 impl CachePick {
-    // The pick of the cache that a line's words say.
-    fn read(heap: Global, words: &[&str]) -> anyhow::Result<Self> {
-        match words {
-            ["push", at, key, pattern @ ..] => Ok(CachePick::Push {
-                at: at.parse()?,
-                key: name(key)?,
-                worker: worker(heap, pattern)?,
+    // The pick of the cache at an instant that a line says.
+    fn read(heap: Global, kind: &str, at: u64, words: &mut Words<'_>) -> anyhow::Result<Self> {
+        match kind {
+            "push" => Ok(CachePick::Push {
+                at,
+                key: words.name()?,
+                worker: words.worker(heap)?,
             }),
-            ["evict", key, ..] => Ok(CachePick::Evict { key: name(key)? }),
-            ["pass", at, ..] => Ok(CachePick::Pass { at: at.parse()? }),
-            ["check", at, place, ..] => CachePick::check(at, Chosen::Place(place.parse()?)),
-            ["checkkey", at, key, ..] => CachePick::check(at, Chosen::Key(name(key)?)),
-            ["send", at, place, request, ..] => {
-                CachePick::send(at, Chosen::Place(place.parse()?), request)
-            }
-            ["sendkey", at, key, request, ..] => {
-                CachePick::send(at, Chosen::Key(name(key)?), request)
-            }
-            [] | [_] => Err(anyhow!("a line is too short")),
-            [
-                "sizes"
-                | "first"
-                | "call"
-                | "done"
-                | "push"
-                | "check"
-                | "checkkey"
-                | "send"
-                | "sendkey",
-                ..
-            ] => { Err(anyhow!("a line is too short")) }
+            "pass" => Ok(CachePick::Pass { at }),
+            "check" => Ok(CachePick::Check {
+                at,
+                chosen: Chosen::Place(words.number()?),
+            }),
+            "checkkey" => Ok(CachePick::Check {
+                at,
+                chosen: Chosen::Key(words.name()?),
+            }),
+            "send" => Ok(CachePick::Send {
+                at,
+                chosen: Chosen::Place(words.number()?),
+                request: words.number()?,
+            }),
+            "sendkey" => Ok(CachePick::Send {
+                at,
+                chosen: Chosen::Key(words.name()?),
+                request: words.number()?,
+            }),
             _ => Err(anyhow!("no such line")),
         }
-    }
-
-    fn check(at: &str, chosen: Chosen) -> anyhow::Result<Self> {
-        Ok(CachePick::Check {
-            at: at.parse()?,
-            chosen,
-        })
-    }
-
-    fn send(at: &str, chosen: Chosen, request: &str) -> anyhow::Result<Self> {
-        Ok(CachePick::Send {
-            at: at.parse()?,
-            chosen,
-            request: request.parse()?,
-        })
     }
 }

@@ -1,14 +1,71 @@
-// Values that the words of a line say.
+// The words of a line, and the values that they say.
 use crate::run::Measure;
-use anyhow::{Context, anyhow, bail};
+use anyhow::{Context, anyhow};
 use keys::Name;
 use load::{Decay, Halving, Settings, Squaring};
 use std::alloc::Global;
+use std::error::Error;
+use std::str::{FromStr, SplitWhitespace};
 use workers::{Answer, Patterned};
 
-/// The name that a word is.
-pub fn name(word: &str) -> anyhow::Result<Name> {
-    Name::new(word.as_bytes()).ok().context("no name")
+/// The words of a line, taken one after the other.
+///
+/// Each is read as it is taken, so that of two faults in a line the first one is told. Words that nobody takes are
+/// passed over.
+#[derive(Drop)]
+pub struct Words<'a>(SplitWhitespace<'a>);
+
+impl<'a> Words<'a> {
+    /// All words of a line.
+    pub fn of(line: &'a str) -> Self {
+        Words(line.split_whitespace())
+    }
+
+    /// The next word.
+    pub fn word(&mut self) -> anyhow::Result<&'a str> {
+        self.0.next().context("a line is too short")
+    }
+
+    /// The number that the next word is.
+    pub fn number<N: FromStr<Err: Error>>(&mut self) -> anyhow::Result<N> {
+        Ok(self.word()?.parse()?)
+    }
+
+    /// The name that the next word is.
+    pub fn name(&mut self) -> anyhow::Result<Name> {
+        Name::new(self.word()?.as_bytes()).ok().context("no name")
+    }
+
+    /// A worker with a pattern of the letters r, p and f; the word `none`, or no word, says an empty pattern.
+    pub fn worker(&mut self, heap: Global) -> anyhow::Result<Patterned> {
+        let letters = match self.0.next() {
+            None | Some("none") => "",
+            Some(letters) => letters,
+        };
+        let pattern: Vec<Answer> = letters.bytes().map(answer).collect(heap)?;
+        Patterned::new(pattern.as_slice())
+            .ok()
+            .context("a pattern is too long")
+    }
+
+    /// The load measure that the next words say.
+    pub fn measure(&mut self) -> anyhow::Result<Measure> {
+        match self.word()? {
+            "count" => Ok(Measure::Count),
+            "halving" => Ok(Measure::Halving(self.settings(Halving)?)),
+            "squaring" => Ok(Measure::Squaring(self.settings(Squaring)?)),
+            _ => Err(anyhow!("no load measure")),
+        }
+    }
+
+    // Settings by two numbers of nanoseconds.
+    fn settings<D: Decay>(&mut self, decay: D) -> anyhow::Result<Settings<D>> {
+        Ok(Settings {
+            decay,
+            default_rtt: self.number()?,
+            decay_period: self.number()?,
+        })
+    }
 }
 
 // The answer of a letter.
@@ -18,57 +75,4 @@ fn answer(letter: u8) -> Answer {
         b'p' => Answer::Pending,
         _ => Answer::Failed,
     }
-}
-
-/// A worker with a pattern of the letters r, p and f; the word `none`, or no word, says an empty pattern.
-pub fn worker(heap: Global, words: &[&str]) -> anyhow::Result<Patterned> {
-    let letters = match words {
-        [] | ["none", ..] => "",
-        [letters, ..] => *letters,
-    };
-    let pattern: Vec<Answer> = letters.bytes().map(answer).collect(heap)?;
-    Patterned::new(pattern.as_slice())
-        .ok()
-        .context("a pattern is too long")
-}
-
-// Settings by two numbers of nanoseconds.
-fn settings<D: Decay>(
-    decay: D,
-    default_rtt: &str,
-    decay_period: &str,
-) -> anyhow::Result<Settings<D>> {
-    Ok(Settings {
-        decay,
-        default_rtt: default_rtt.parse()?,
-        decay_period: decay_period.parse()?,
-    })
-}
-
-/// The load measure that words say.
-pub fn measure(words: &[&str]) -> anyhow::Result<Measure> {
-    match words {
-        ["count", ..] => Ok(Measure::Count),
-        ["halving", default_rtt, decay_period, ..] => {
-            Ok(Measure::Halving(settings(Halving, default_rtt, decay_period)?))
-        }
-        ["squaring", default_rtt, decay_period, ..] => {
-            Ok(Measure::Squaring(settings(Squaring, default_rtt, decay_period)?))
-        }
-        [] | ["halving" | "squaring", ..] => Err(anyhow!("a line is too short")),
-        _ => Err(anyhow!("no load measure")),
-    }
-}
-
-/// So many numbers, which stand after how many they are.
-pub fn numbers(heap: Global, words: &[&str]) -> anyhow::Result<Vec<u64>> {
-    let [count, words @ ..] = words else {
-        bail!("a line is too short");
-    };
-    let words = words.get(..count.parse()?).context("a line is too short")?;
-    let mut numbers = Vec::new(heap);
-    for word in words {
-        numbers.push(word.parse()?)?;
-    }
-    Ok(numbers)
 }

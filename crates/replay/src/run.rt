@@ -2,7 +2,7 @@
 use crate::cache_router::CacheRouter;
 use crate::kinds::{Bare, MakeWorker, PeakEwmaMaker, PendingRequestsMaker, Worker, valid};
 use crate::pick::Pick;
-use crate::read::{measure, name, numbers, worker};
+use crate::read::Words;
 use cache_model::Entry;
 use discover::{Discover, Discovered, ListFeed};
 use keys::Name;
@@ -28,6 +28,16 @@ pub enum Measure {
 pub enum Workers {
     Patterned,
     Paced,
+}
+
+impl Workers {
+    // The workers that the next word says: paced ones by `paced`, and patterned ones by any other.
+    fn read(words: &mut Words<'_>) -> anyhow::Result<Self> {
+        match words.word()? {
+            "paced" => Ok(Workers::Paced),
+            _ => Ok(Workers::Patterned),
+        }
+    }
 }
 
 /// Where words come from.
@@ -80,43 +90,57 @@ impl Run {
 
     /// Reads one line of the run's text: it says how the run is made, or adds an answer of the feed or a pick.
     pub fn read(&mut self, heap: Global, line: &str) -> anyhow::Result<()> {
-        let words: Vec<&str> = line.split_whitespace().collect(heap)?;
-        match words.as_slice() {
-            ["load", words @ ..] => self.measure = measure(words)?,
-            ["workers", "paced", ..] => self.workers = Workers::Paced,
-            ["workers", _, ..] => self.workers = Workers::Patterned,
-            ["words", "hash", ..] => self.source = Source::Hash,
-            ["words", _, words @ ..] => {
-                self.source = Source::List;
-                self.words.extend(numbers(heap, words)?)?;
+        let mut words = Words::of(line);
+        let kind = words.word()?;
+        match kind {
+            "load" => self.measure = words.measure()?,
+            "workers" => self.workers = Workers::read(&mut words)?,
+            "words" => self.read_words(&mut words)?,
+            "sizes" => {
+                self.places = words.number()?;
+                self.records = words.number()?;
+                self.budget = words.number()?;
             }
-            ["sizes", places, records, budget, ..] => {
-                self.places = places.parse()?;
-                self.records = records.parse()?;
-                self.budget = budget.parse()?;
+            "first" => {
+                self.first_serial = words.number()?;
+                self.first_ticket = words.number()?;
             }
-            ["first", serial, ticket, ..] => {
-                self.first_serial = serial.parse()?;
-                self.first_ticket = ticket.parse()?;
-            }
-            ["feed" | "picks", ..] => {}
-            words => self.read_event(heap, words)?,
+            "feed" | "picks" => {}
+            _ => self.read_event(heap, kind, &mut words)?,
+        }
+        Ok(())
+    }
+
+    // Reads where words come from, and the words of a list.
+    fn read_words(&mut self, words: &mut Words<'_>) -> anyhow::Result<()> {
+        if words.word()? == "hash" {
+            self.source = Source::Hash;
+            return Ok(());
+        }
+        self.source = Source::List;
+        let count: usize = words.number()?;
+        for _word in 0..count {
+            self.words.push(words.number()?)?;
         }
         Ok(())
     }
 
     // Reads a line that adds an answer of the feed, or a pick.
-    fn read_event(&mut self, heap: Global, words: &[&str]) -> anyhow::Result<()> {
-        match words {
-            ["insert", key, pattern @ ..] => {
-                self.feed
-                    .push(Discovered::Insert(name(key)?, worker(heap, pattern)?))?;
-            }
-            ["remove", key, ..] => self.feed.push(Discovered::Remove(name(key)?))?,
-            ["pending", ..] => self.feed.push(Discovered::Pending)?,
-            ["end", ..] => self.feed.push(Discovered::End)?,
-            ["fault", error, ..] => self.feed.push(Discovered::Fault(error.parse()?))?,
-            _ => self.picks.push(Pick::read(heap, words)?)?,
+    fn read_event(
+        &mut self,
+        heap: Global,
+        kind: &str,
+        words: &mut Words<'_>,
+    ) -> anyhow::Result<()> {
+        match kind {
+            "insert" => self
+                .feed
+                .push(Discovered::Insert(words.name()?, words.worker(heap)?))?,
+            "remove" => self.feed.push(Discovered::Remove(words.name()?))?,
+            "pending" => self.feed.push(Discovered::Pending)?,
+            "end" => self.feed.push(Discovered::End)?,
+            "fault" => self.feed.push(Discovered::Fault(words.number()?))?,
+            _ => self.picks.push(Pick::read(heap, kind, words)?)?,
         }
         Ok(())
     }
@@ -213,7 +237,8 @@ impl Run {
         let key = valid(Name::new(b"0"))?;
         let mut memory = Memory::new(heap, Entry::new(key, blank, 0), self.places, self.records)?;
         let mut router = CacheRouter::new(self, feed, words, &mut memory);
-        let mut out = String::from_str(heap, "run\n")?;
+        let mut out = String::new(heap);
+        out.push_str("run\n")?;
         for pick in self.picks.iter() {
             router.apply_and_write(*pick, maker, &mut out)?;
         }

@@ -62,8 +62,11 @@ where
 
 /// A [`run`] of all the picks that owns what it gives back: every answer, and copies of both lists and of the docket.
 ///
-/// It wants memory for these; where there is none it answers so, and what was run is lost. What is promised of a run
-/// stands on `run`, which this calls.
+/// It wants memory for these; where there is none it answers so, and what was run is lost.
+///
+/// - `owned`: what is owned are the answers, lists and numbers of the model's steps over all the picks
+/// - `promise`: of these steps holds what [`run`] promises, part by part, also where memory is wanted
+#[tactic(auto, using(balance_model::proofs::Promised::promised))]
 pub fn run_owned<D: Discover, R: Rng>(
     heap: Global,
     slices: Slices<'_, D::Key, D::Service>,
@@ -77,9 +80,12 @@ where
     D: Drop,
     R: Drop,
     D::Service: Endpoint,
-    ensures { let m = ⟦<D as Kinds<R>>⟧.kinds in
+    ensures owned { let m = ⟦<D as Kinds<R>>⟧.kinds in
         let run = whole_run m (making_of slices.entry opening) picks.now in
         IfOk result (λ owned. OwnedAs owned (answers_of run.history) run.state) }
+    ensures promise { let m = ⟦<D as Kinds<R>>⟧.kinds in
+        let run = whole_run m (making_of slices.entry opening) picks.now in
+        Promise m (making_of slices.entry opening) run }
 {
     let mut answers = memory::answers(heap, picks.len())?;
     let closing = run(slices, opening, picks, answers.as_mut_slice());

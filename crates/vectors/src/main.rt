@@ -23,38 +23,45 @@ ghost use Rattle.std.specs.Prelude.{◌≡◌};
 ghost use Rattle.rng.specs.Fnv.{fnv_1a};
 ghost use Rattle.rng.specs.Sources.{bytes_of};
 
-use anyhow::{anyhow, bail};
+use anyhow::{Context, anyhow};
 use load::{Decay, Halving, RttEstimate, Squaring, nanos};
 use rng::{HasherRng, ListRng, Rng, fnv1a, sample_floyd2};
 use std::alloc::Global;
 use std::io::{BufRead, BufReader};
 use std::num::f64_to_bits_with_nan;
+use std::str::SplitWhitespace;
 
 // 64 bits in hexadecimal.
 fn hex(heap: Global, bits: u64) -> anyhow::Result<String> {
     Ok(format!(in heap; "{bits:016x}")?)
 }
 
+// The next word of a line.
+fn word<'a>(words: &mut SplitWhitespace<'a>) -> anyhow::Result<&'a str> {
+    words.next().context("a line is too short")
+}
+
+// The number that the next word is. Each is read as it is taken, so that of two faults in a line the first one is told.
+fn number(words: &mut SplitWhitespace<'_>) -> anyhow::Result<u64> {
+    Ok(word(words)?.parse()?)
+}
+
 // The share that a decay keeps after a time, in periods.
-fn share<D: Decay>(decay: D, words: &[&str]) -> anyhow::Result<u64> {
-    let [elapsed, period, ..] = words else {
-        bail!("a line is too short");
-    };
-    let elapsed = nanos(elapsed.parse()?);
-    let period = nanos(period.parse()?);
+fn share<D: Decay>(decay: D, words: &mut SplitWhitespace<'_>) -> anyhow::Result<u64> {
+    let elapsed = nanos(number(words)?);
+    let period = nanos(number(words)?);
     Ok(f64_to_bits_with_nan(decay.decay(-elapsed / period)))
 }
 
 // The estimate that starts as a default at the instant 0, after one response.
-fn estimate<D: Decay>(decay: D, words: &[&str]) -> anyhow::Result<u64> {
-    let [default_rtt, period, sent, at, ..] = words else {
-        bail!("a line is too short");
-    };
+fn estimate<D: Decay>(decay: D, words: &mut SplitWhitespace<'_>) -> anyhow::Result<u64> {
     let mut estimate = RttEstimate {
-        rtt_ns: nanos(default_rtt.parse()?),
+        rtt_ns: nanos(number(words)?),
         update_at: 0,
     };
-    estimate.update(&decay, period.parse()?, sent.parse()?, at.parse()?);
+    let period = number(words)?;
+    let sent = number(words)?;
+    estimate.update(&decay, period, sent, number(words)?);
     Ok(estimate.to_bits())
 }
 
@@ -76,28 +83,39 @@ fn nth_word(place: u64) -> u64
     source_after(place).next_u64()
 }
 
-// The answer to a line's words.
-fn answer(heap: Global, words: &[&str]) -> anyhow::Result<String> {
-    match words {
-        ["fnv"] => hex(heap, fnv1a(b"")),
-        ["fnv", text, ..] => hex(heap, fnv1a(text.as_bytes())),
-        ["word", place, ..] => hex(heap, nth_word(place.parse()?)),
-        ["range", start, end, word, ..] => {
-            let words = [word.parse()?];
-            let number = ListRng::new(&words).next_range(start.parse()?..end.parse()?);
+// The number of a range that the next three words give: its start, its end, and the word that is drawn by.
+fn in_range(words: &mut SplitWhitespace<'_>) -> anyhow::Result<u64> {
+    let range = number(words)?..number(words)?;
+    let drawn_by = [number(words)?];
+    Ok(ListRng::new(&drawn_by).next_range(range))
+}
+
+// The two places that the next three words give: below the first of them, drawn by the other two.
+fn sample(words: &mut SplitWhitespace<'_>) -> anyhow::Result<[u64; 2]> {
+    let length = number(words)?;
+    let drawn_by = [number(words)?, number(words)?];
+    Ok(sample_floyd2(&mut ListRng::new(&drawn_by), length))
+}
+
+// The answer to a line.
+fn answer(heap: Global, line: &str) -> anyhow::Result<String> {
+    let words = &mut line.split_whitespace();
+    match word(words)? {
+        "fnv" => hex(heap, fnv1a(words.next().unwrap_or("").as_bytes())),
+        "word" => hex(heap, nth_word(number(words)?)),
+        "range" => {
+            let number = in_range(words)?;
             Ok(format!(in heap; "{number}")?)
         }
-        ["sample", length, first, second, ..] => {
-            let words = [first.parse()?, second.parse()?];
-            let [a, b] = sample_floyd2(&mut ListRng::new(&words), length.parse()?);
+        "sample" => {
+            let [a, b] = sample(words)?;
             Ok(format!(in heap; "{a} {b}")?)
         }
-        ["nanos", number, ..] => hex(heap, f64_to_bits_with_nan(nanos(number.parse()?))),
-        ["halving", words @ ..] => hex(heap, share(Halving, words)?),
-        ["squaring", words @ ..] => hex(heap, share(Squaring, words)?),
-        ["halved", words @ ..] => hex(heap, estimate(Halving, words)?),
-        ["squared", words @ ..] => hex(heap, estimate(Squaring, words)?),
-        [] | ["word" | "range" | "sample" | "nanos", ..] => Err(anyhow!("a line is too short")),
+        "nanos" => hex(heap, f64_to_bits_with_nan(nanos(number(words)?))),
+        "halving" => hex(heap, share(Halving, words)?),
+        "squaring" => hex(heap, share(Squaring, words)?),
+        "halved" => hex(heap, estimate(Halving, words)?),
+        "squared" => hex(heap, estimate(Squaring, words)?),
         _ => Err(anyhow!("no such line")),
     }
 }
@@ -106,8 +124,7 @@ fn main(rt: HostRuntime) -> anyhow::Result<()> {
     let heap = rt.alloc();
     for line in BufReader::new(heap, rt.stdin())?.lines(heap) {
         let line = line?;
-        let words: Vec<&str> = line.split_whitespace().collect(heap)?;
-        let value = answer(heap, words.as_slice())?;
+        let value = answer(heap, line.as_str())?;
         println!(rt; "{line}: {value}")?;
     }
     Ok(())

@@ -1,2 +1,3 @@
 pub mod Polls
 pub mod Computed
+pub mod Steps

@@ -13,7 +13,7 @@
 #![tactic(auto)]
 
 ghost use Rattle.std.specs.Prelude.{IsOkAnd};
-ghost use Rattle.worked_cases.specs.Cases.{IsWorkedTable};
+ghost use Rattle.worked_cases.specs.Cases.{IsWorkedTable, WorkedSteps};
 
 mod capacity;
 mod estimates;
@@ -56,9 +56,14 @@ pub struct WorkedCases {
 }
 
 /// Every worked case. There is no error, since each duration that the endpoints are made with is above 0.
-#[tactic(auto, using(crate::proofs::Computed::rounded_is, crate::proofs::Computed::weight_is, crate::proofs::Computed::estimate_is))]
+///
+/// - `table`: what the calls come to
+/// - `steps`: the same by the model's steps; that a full cache refuses a push, that one with a place left takes it, and
+///   that the last entry moves into the gap of a removed one hold of any cache and any workers
+#[tactic(auto, using(crate::proofs::Computed::rounded_is, crate::proofs::Computed::weight_is, crate::proofs::Computed::estimate_is, crate::proofs::Steps::worked_steps))]
 pub fn worked_cases() -> Result<WorkedCases, Invalid>
-    ensures { IsOkAnd result IsWorkedTable }
+    ensures table { IsOkAnd result IsWorkedTable }
+    ensures steps { WorkedSteps }
 {
     let (first_push, second_push) = capacity::two_pushes();
     Ok(WorkedCases {
